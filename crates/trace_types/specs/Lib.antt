@@ -1,0 +1,6 @@
+pub mod Padding
+pub mod Comms
+pub mod ByteTexts
+pub mod Numbers
+pub mod Paths
+pub mod Same

@@ -1,0 +1,54 @@
+-- Attribute paths as texts, and the order in which they are listed (this project's own format).
+use Rattle.std.specs.Prelude.{ℕ, List, [], ◌∷◌, ◌++◌, codes}
+use Rattle.std.specs.Fmt.{decimal}
+use Rattle.trace_types.specs.declared.path.Path.{Path as AttributePath}
+use Rattle.trace_types.specs.declared.path.Path.TheVariants.{Cpu, Thread}
+use Rattle.trace_types.specs.declared.path.ThreadKey.{ThreadKey}
+use Rattle.trace_types.specs.declared.path.ThreadKey.TheVariants.{Idle, Tid}
+use Rattle.trace_types.specs.declared.path.CpuLeaf.{CpuLeaf}
+use Rattle.trace_types.specs.declared.path.CpuLeaf.TheVariants as cpu_leaf
+use Rattle.trace_types.specs.declared.path.ThreadLeaf.{ThreadLeaf}
+use Rattle.trace_types.specs.declared.path.ThreadLeaf.TheVariants as thread_leaf
+
+-- a thread: its tid, or 0_ and the processor of an idle one
+abbrev pub thread_text : ThreadKey → List ℕ
+thread_text (Idle cpu) = codes "0_" ++ decimal cpu
+thread_text (Tid tid) = decimal tid
+
+abbrev pub cpu_leaf_text : CpuLeaf → List ℕ
+cpu_leaf_text cpu_leaf.Thread = codes "Thread"
+cpu_leaf_text cpu_leaf.Irq = codes "Irq"
+cpu_leaf_text cpu_leaf.Softirq = codes "Softirq"
+
+abbrev pub thread_leaf_text : ThreadLeaf → List ℕ
+thread_leaf_text thread_leaf.Status = codes "Status"
+thread_leaf_text thread_leaf.Name = codes "Name"
+thread_leaf_text thread_leaf.Cpu = codes "Cpu"
+thread_leaf_text thread_leaf.Prio = codes "Prio"
+thread_leaf_text thread_leaf.Parent = codes "Parent"
+thread_leaf_text thread_leaf.Call = codes "Call"
+
+-- a path: its host, whether it is of a processor or of a thread, which one, and the leaf
+abbrev pub path_text : AttributePath → List ℕ
+path_text (Cpu host cpu leaf) = codes "h" ++ decimal host ++ codes "/Cpu/" ++ decimal cpu ++ codes "/" ++ cpu_leaf_text leaf
+path_text (Thread host thread leaf) = codes "h" ++ decimal host ++ codes "/Thread/" ++ thread_text thread ++ codes "/" ++ thread_leaf_text leaf
+
+-- the place of a leaf among its kind
+abbrev pub cpu_leaf_place : CpuLeaf → ℕ
+cpu_leaf_place cpu_leaf.Thread = 0
+cpu_leaf_place cpu_leaf.Irq = 1
+cpu_leaf_place cpu_leaf.Softirq = 2
+
+abbrev pub thread_leaf_place : ThreadLeaf → ℕ
+thread_leaf_place thread_leaf.Status = 0
+thread_leaf_place thread_leaf.Name = 1
+thread_leaf_place thread_leaf.Cpu = 2
+thread_leaf_place thread_leaf.Prio = 3
+thread_leaf_place thread_leaf.Parent = 4
+thread_leaf_place thread_leaf.Call = 5
+
+-- where a path is listed, compared from the left: by host, processors before idle threads before tids, by number, by leaf
+abbrev pub place_of : AttributePath → List ℕ
+place_of (Cpu host cpu leaf) = host ∷ 0 ∷ cpu ∷ cpu_leaf_place leaf ∷ []
+place_of (Thread host (Idle cpu) leaf) = host ∷ 1 ∷ cpu ∷ thread_leaf_place leaf ∷ []
+place_of (Thread host (Tid tid) leaf) = host ∷ 2 ∷ tid ∷ thread_leaf_place leaf ∷ []

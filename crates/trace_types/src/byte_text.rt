@@ -1,0 +1,80 @@
+//! Bytes as a word of a line: visible ASCII as it is, all else by percent signs.
+ghost use Rattle.std.specs.Prelude.{◌≡◌, ◌≢◌, ◌<◌, ◌++◌, ◌∷◌, ℕ, List, IfSome, IfNone, OnOk, flat_map};
+ghost use Rattle.trace_types.specs.ByteTexts.{byte_text, spelled, is_plain, hex_digit};
+
+use crate::OutOfMemory;
+
+/// Appends bytes as one word, which has no space and no line feed. The only error is want of memory.
+pub fn write_byte_text(bytes: &[u8], out: &mut Vec<u8>) -> Result<(), OutOfMemory>
+    ensures ok { OnOk result (out.new.items ≡ out.old.items ++ byte_text bytes.now) }
+{
+    if bytes.is_empty() {
+        out.push(b'%')?;
+    }
+    for byte in bytes {
+        write_byte(*byte, out)?;
+    }
+    Ok(())
+}
+
+fn write_byte(byte: u8, out: &mut Vec<u8>) -> Result<(), OutOfMemory>
+    ensures ok { OnOk result (out.new.items ≡ out.old.items ++ spelled byte) }
+{
+    if is_plain(byte) {
+        out.push(byte)?;
+    } else {
+        let spelling = [b'%', hex_digit(byte / 16), hex_digit(byte % 16)];
+        out.extend_from_slice(&spelling)?;
+    }
+    Ok(())
+}
+
+// Whether a byte stands for itself.
+fn is_plain(byte: u8) -> bool
+    ensures { result ≡ is_plain byte }
+{
+    matches!(byte, b'!'..=b'~') && byte != b'%'
+}
+
+// The upper-case hexadecimal digit of a number.
+fn hex_digit(number: u8) -> u8
+    requires { number < 16 }
+    ensures { result ≡ hex_digit number }
+{
+    if number < 10 {
+        b'0' + number
+    } else {
+        b'A' - 10 + number
+    }
+}
+
+// The number that an upper-case hexadecimal digit stands for.
+fn hex_value(digit: u8) -> Option<u8>
+    ensures found { IfSome result (λ n. (n < 16) × (hex_digit n ≡ digit)) }
+    ensures none { IfNone result ((n : ℕ) → n < 16 → hex_digit n ≢ digit) }
+{
+    match digit {
+        b'0'..=b'9' => Some(digit - b'0'),
+        b'A'..=b'F' => Some(digit - b'A' + 10),
+        _ => None,
+    }
+}
+
+/// Reads the byte whose spelling the text begins with, and gives what follows it.
+pub(crate) fn read_byte(text: &[u8]) -> Option<(u8, &[u8])>
+    ensures found { IfSome result (λ r. text.now ≡ spelled r.0 ++ r.1.now) }
+    ensures none { IfNone result ((b : ℕ) (rest : List ℕ) → b < 256 → text.now ≢ spelled b ++ rest) }
+{
+    match text {
+        [b'%', high, low, rest @ ..] => {
+            let byte = hex_value(*high)? * 16 + hex_value(*low)?;
+            if is_plain(byte) {
+                None
+            } else {
+                Some((byte, rest))
+            }
+        }
+        [byte, rest @ ..] if is_plain(*byte) => Some((*byte, rest)),
+        _ => None,
+    }
+}

@@ -1,0 +1,20 @@
+//! What all crates of hosttrace share: events, attribute paths, values and their small texts.
+#![tactic(auto)]
+
+mod byte_text;
+mod comm;
+mod event;
+mod memory;
+mod number;
+mod path;
+mod text;
+mod value;
+
+pub use byte_text::write_byte_text;
+pub use comm::{Comm, read_comm};
+pub use event::{Event, KernelEvent, Merged, TIME_END};
+pub use memory::OutOfMemory;
+pub use number::{read_number, read_signed};
+pub use path::{CpuLeaf, Path, ThreadKey, ThreadLeaf, write_path};
+pub use text::Text;
+pub use value::Value;
