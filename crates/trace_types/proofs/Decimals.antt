@@ -13,7 +13,7 @@ use Rattle.std.specs.Char.{digit_value}
 use Rattle.std.specs.Str.Parse.{AllDigits, digits_value, digits_value_after, ParsesUnsigned, ParsesSigned, signed_digits_value}
 use Rattle.trace_types.specs.Numbers.{BeginsPlainly, BeginsPlainlySigned}
 use Rattle.std.proofs.lemmas.Str.{digit_value_digit, IsUtf8-from_ascii}
-use Rattle.std.proofs.lemmas.Fmt.{decimal_digit, decimal_step_wide, decimal_by_steps_wide, parse-decimal_wide, IsAscii-decimal_wide, parse-signed_decimal, IsAscii-signed}
+use Rattle.std.proofs.lemmas.Fmt.{decimal_digit, decimal_step_wide, decimal_by_steps_wide, decimal_is_IsNumeral_wide, parse-decimal_wide, IsAscii-decimal_wide, parse-signed_decimal, IsAscii-signed}
 use Rattle.std.proofs.lemmas.Str.Parse.{digit_from_value, parse_plain, parse_signed_plain, parse_signed_minus, numerals_by_value, tells_digits}
 
 pub wide : (n : ℕ) → n < 2 ^ 128 → n < 10 ^ 64
@@ -157,6 +157,10 @@ not_plain_signed bs b h f z fits e = not_both b f (h.1 (subst BeginsPlainlySigne
 
 pub not_utf8_signed : (bs : List ℕ) → ¬ (IsUtf8 bs) → (z : ℤ) → FitsSigned w64 z → bs ≢ signed_decimal z
 not_utf8_signed bs h z fits e = h (subst IsUtf8 (sym e) (IsUtf8-from_ascii (signed_decimal z) (IsAscii-signed z (fits_mag z fits))))
+
+-- no two numbers are written alike
+pub same_number : (m n : ℕ) → m < 2 ^ 128 → n < 2 ^ 128 → decimal m ≡ decimal n → m ≡ n
+same_number m n g h e = sym (decimal_is_IsNumeral_wide m (wide m g)).1 ∙ (ap (digits_value 10) e ∙ (decimal_is_IsNumeral_wide n (wide n h)).1)
 
 -- `from_utf8`, when it refuses
 pub refused : {A X : Type 0} (P : A → Type 0) (N : Type 0) (Q : X → Type 0) (r : Result A X) → MatchResult r P (λ e. N × Q e) → None ≡ result_ok r → N

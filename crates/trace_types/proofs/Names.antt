@@ -91,7 +91,7 @@ pub more : (text bytes : List ℕ) (len : ℕ) (rest : List ℕ) (byte : ℕ) (a
 more text bytes len rest byte after has is small nonzero room =
     let front : take (len + 1) (set bytes len byte) ≡ take len bytes ++ byte ∷ [] = take_more_set bytes len byte (omega (arith, has.short, has.size)) in
     let left : length (take len bytes) ≡ len = length-take-le len bytes (omega (arith, has.short, has.size)) in
-    let zeros : replicate (16 - len) 0 ≡ 0 ∷ replicate (15 - len) 0 = replicate_suc (16 - len) (15 - len) (omega (arith, has.short, room)) in
+    let zeros : replicate {A = ℕ} (16 - len) 0 ≡ 0 ∷ replicate {A = ℕ} (15 - len) 0 = replicate_suc (16 - len) (15 - len) (omega (arith, has.short, room)) in
     let less : 15 - len ≡ 16 - (len + 1) = omega arith in
     record {
       size = length-set bytes len byte ∙ has.size;

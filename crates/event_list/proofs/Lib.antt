@@ -1,0 +1,5 @@
+pub mod InRange
+pub mod WordLists
+pub mod Spelling
+pub mod Reading
+pub mod Cutting

@@ -1,0 +1,147 @@
+-- Lines are cut where they end, and words where they do.
+use Rattle.std.proofs.Common.{◌≡◌, ◌≢◌, ℕ, ℤ, pos, negsuc, suc, ◌+◌, ◌/◌, ◌%◌, ◌<◌, ◌^◌, Bool, true, false, if◌then◌else◌, List, [], ◌∷◌, ◌++◌, refl, sym, ap, ap₂, ◌∙◌, append_assoc, map, Bor, arith, rules, FitsSigned}
+use Rattle.std.specs.Prelude.{flat_map, ◌==◌}
+use Rattle.std.specs.List.{AllByRecursion, slice_split, join_with_byte}
+use Rattle.std.specs.Int.{w32, w64}
+use Rattle.std.specs.Str.Parse.{AllDigits}
+use Rattle.std.specs.Fmt.{decimal, signed_decimal}
+use lib.Signed.{mag}
+use Rattle.std.proofs.lemmas.Int.{ints}
+use Rattle.std.proofs.lemmas.Fmt.{decimal_is_IsNumeral_wide}
+use Rattle.std.proofs.lemmas.Str.Parse.{digit_from_value}
+use Rattle.std.proofs.lemmas.Bool.{ne_eqb}
+use Rattle.std.proofs.lemmas.List.{map-append}
+use Rattle.trace_types.specs.ByteTexts.{byte_text, spelled, is_plain, hex_digit}
+use Rattle.trace_types.proofs.Decimals.{wide}
+use Rattle.trace_types.specs.declared.event.Merged.{Merged}
+use Rattle.trace_types.specs.declared.event.KernelEvent.{KernelEvent}
+use Rattle.trace_types.specs.declared.event.KernelEvent.TheVariants.{Switch}
+use Rattle.event_list.specs.Lines.{kind_words, words_of, IsKind, IsEvent}
+use Rattle.event_list.proofs.InRange.{below_wide}
+
+-- every byte of the word is past the space
+abbrev pub IsWord : List ℕ → Type 0
+IsWord = AllByRecursion (λ b. 32 < b)
+
+both : (xs ys : List ℕ) → IsWord xs → IsWord ys → IsWord (xs ++ ys)
+both [] ys h g = g
+both (x ∷ xs) ys h g = (h.0, both xs ys h.1 g)
+
+digits_word : (ds : List ℕ) → AllDigits 10 ds → IsWord ds
+digits_word [] h = tt
+digits_word (d ∷ ds) h = (omega (arith, (digit_from_value d h.0).0), digits_word ds h.1)
+
+decimal_word : (n : ℕ) → n < 2 ^ 128 → IsWord (decimal n)
+decimal_word n h = digits_word (decimal n) (decimal_is_IsNumeral_wide n (wide n h)).0.1
+
+signed_word : (z : ℤ) → mag z < 2 ^ 63 → IsWord (signed_decimal z)
+signed_word (pos n) h = decimal_word n (below_wide n (2 ^ 63) h (omega arith))
+signed_word (negsuc n) h = (omega arith, decimal_word (suc n) (below_wide (suc n) (2 ^ 63 + 1) (omega arith) (omega arith)))
+
+hex_word : (n : ℕ) → 32 < hex_digit n
+hex_word n = grind arith
+
+spelled_word : (b : ℕ) → IsWord (spelled b)
+spelled_word b = by (is_plain b) refl
+  where
+    above : (b : ℕ) → true ≡ is_plain b → 32 < b
+    above b h = grind arith
+
+    by : (p : Bool) → p ≡ is_plain b → IsWord (if p then b ∷ [] else 37 ∷ hex_digit (b / 16) ∷ hex_digit (b % 16) ∷ [])
+    by true h = (above b h, tt)
+    by false h = (omega arith, (hex_word (b / 16), (hex_word (b % 16), tt)))
+
+spelled_all_word : (bs : List ℕ) → IsWord (flat_map spelled bs)
+spelled_all_word [] = tt
+spelled_all_word (b ∷ bs) = both (spelled b) _ (spelled_word b) (spelled_all_word bs)
+
+byte_text_word : (bs : List ℕ) → IsWord (byte_text bs)
+byte_text_word [] = (omega arith, tt)
+byte_text_word (b ∷ bs) = spelled_all_word (b ∷ bs)
+
+abbrev AreWords : List (List ℕ) → Type 0
+AreWords = AllByRecursion IsWord
+
+mag_64 : (z : ℤ) → FitsSigned w64 z → mag z < 2 ^ 63
+mag_64 (pos n) h = omega (arith, ints)
+mag_64 (negsuc n) h = omega (arith, ints)
+
+mag_32 : (z : ℤ) → FitsSigned w32 z → mag z < 2 ^ 63
+mag_32 (pos n) h = omega (arith, ints)
+mag_32 (negsuc n) h = omega (arith, ints)
+
+number : (n limit : ℕ) → n < limit → limit < 2 ^ 64 → IsWord (decimal n)
+number n limit h g = decimal_word n (below_wide n limit h g)
+
+kind_are_words : (k : KernelEvent) → IsKind k → AreWords (kind_words k)
+kind_are_words (Switch s pt nt pp np pc nc) h =
+    let prev : IsWord (decimal pt) = number pt (2 ^ 31) h.0 (omega arith) in
+    let next : IsWord (decimal nt) = number nt (2 ^ 31) h.4 (omega arith) in
+    (search rules, (prev, (byte_text_word pc, (signed_word pp (mag_32 pp h.2), (signed_word s (mag_64 s h.3), (next, (byte_text_word nc, (signed_word np (mag_32 np h.6), tt))))))))
+
+pub are_words : (m : Merged) → IsEvent m → AreWords (words_of m)
+are_words m h =
+    (number m.key (2 ^ 62) h.key (omega arith), (number m.event.host 64 h.host (omega arith), (number m.event.cpu (2 ^ 32) h.cpu (omega arith), (number m.event.time (2 ^ 62) h.time.1 (omega arith), kind_are_words m.event.kind h.kind))))
+
+-- words that are joined by spaces are cut at the spaces
+split_word : (w rest : List ℕ) → IsWord w → slice_split (λ b. b == 32) (w ++ 32 ∷ rest) ≡ w ∷ slice_split (λ b. b == 32) rest
+split_word [] rest h = refl
+split_word (b ∷ bs) rest h = rw (ne_eqb b 32 (λ e. omega (arith, h.0, e)), split_word bs rest h.1) refl
+
+split_last : (w : List ℕ) → IsWord w → slice_split (λ b. b == 32) w ≡ w ∷ []
+split_last [] h = refl
+split_last (b ∷ bs) h = rw (ne_eqb b 32 (λ e. omega (arith, h.0, e)), split_last bs h.1) refl
+
+pub split_joined : (w : List ℕ) (ws : List (List ℕ)) → AreWords (w ∷ ws) → slice_split (λ b. b == 32) (join_with_byte 32 (w ∷ ws)) ≡ w ∷ ws
+split_joined w [] h = split_last w h.0
+split_joined w (v ∷ vs) h = split_word w (join_with_byte 32 (v ∷ vs)) h.0 ∙ ap (λ l. w ∷ l) (split_joined v vs h.1)
+
+-- no line feed is in a line
+abbrev pub NoEnd : List ℕ → Type 0
+NoEnd = AllByRecursion (λ b. b ≢ 10)
+
+word_no_end : (w : List ℕ) → IsWord w → NoEnd w
+word_no_end [] h = tt
+word_no_end (b ∷ bs) h = (λ e. omega (arith, h.0, e), word_no_end bs h.1)
+
+no_end_both : (xs ys : List ℕ) → NoEnd xs → NoEnd ys → NoEnd (xs ++ ys)
+no_end_both [] ys h g = g
+no_end_both (x ∷ xs) ys h g = (h.0, no_end_both xs ys h.1 g)
+
+pub joined_no_end : (ws : List (List ℕ)) → AreWords ws → NoEnd (join_with_byte 32 ws)
+joined_no_end [] h = tt
+joined_no_end (w ∷ []) h = word_no_end w h.0
+joined_no_end (w ∷ v ∷ vs) h = no_end_both w _ (word_no_end w h.0) (λ e. omega (arith, e), joined_no_end (v ∷ vs) h.1)
+
+-- a text has one first line
+pub first_line_is : (xs ys a b : List ℕ) → NoEnd xs → NoEnd ys → xs ++ 10 ∷ a ≡ ys ++ 10 ∷ b → (xs ≡ ys) × (a ≡ b)
+first_line_is [] [] a b h g e = (refl, cc)
+first_line_is [] (y ∷ ys) a b h g e = absurd (g.0 (cc))
+first_line_is (x ∷ xs) [] a b h g e = absurd (h.0 (cc))
+first_line_is (x ∷ xs) (y ∷ ys) a b h g e = let more = first_line_is xs ys a b h.1 g.1 (cc) in (ap₂ (λ z zs. z ∷ zs) (cc) more.0, more.1)
+
+pub has_end : (xs a : List ℕ) → NoEnd (xs ++ 10 ∷ a) → ⊥
+has_end [] a h = h.0 refl
+has_end (x ∷ xs) a h = has_end xs a h.1
+
+-- a line's words, cut off one by one
+abbrev pub cut : List ℕ → List (List ℕ)
+cut = slice_split (λ b. b == 32)
+
+pub cut_word : (w rest : List ℕ) → AllByRecursion (λ b. b ≢ 32) w → cut (w ++ 32 ∷ rest) ≡ w ∷ cut rest
+cut_word [] rest h = refl
+cut_word (b ∷ bs) rest h = rw (ne_eqb b 32 h.0, cut_word bs rest h.1) refl
+
+pub cut_last : (w : List ℕ) → AllByRecursion (λ b. b ≢ 32) w → cut w ≡ w ∷ []
+cut_last [] h = refl
+cut_last (b ∷ bs) h = rw (ne_eqb b 32 h.0, cut_last bs h.1) refl
+
+-- one more word of a line
+pub one_more : (line rest after w : List ℕ) (ws vs : List (Bor (List ℕ))) (v : Bor (List ℕ)) → cut line ≡ map (λ w. w.now) ws ++ cut rest → rest ≡ w ++ 32 ∷ after → AllByRecursion (λ b. b ≢ 32) w → v.now ≡ w → vs ≡ ws ++ v ∷ []
+    → cut line ≡ map (λ w. w.now) vs ++ cut after
+one_more line rest after w ws vs v h e apart is more = rw (more, map-append, append_assoc, is) (h ∙ ap (λ l. map (λ w. w.now) ws ++ l) (ap cut e ∙ cut_word w after apart))
+
+-- the last word of a line
+pub last_word : (line rest : List ℕ) (ws vs : List (Bor (List ℕ))) (v : Bor (List ℕ)) → cut line ≡ map (λ w. w.now) ws ++ cut rest → AllByRecursion (λ b. b ≢ 32) rest → v.now ≡ rest → vs ≡ ws ++ v ∷ []
+    → map (λ w. w.now) vs ≡ cut line
+last_word line rest ws vs v h apart is more = rw (more, map-append, is) (sym (h ∙ ap (λ l. map (λ w. w.now) ws ++ l) (cut_last rest apart)))
