@@ -1,0 +1,4 @@
+pub mod Rules
+pub mod Replay
+pub mod Steps
+pub mod Given
