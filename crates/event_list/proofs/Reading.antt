@@ -5,10 +5,9 @@ use Rattle.std.specs.Prelude.{flat_map, ◌==◌}
 use Rattle.std.specs.List.{AllByRecursion, slice_split, join_with_byte}
 use Rattle.std.proofs.lemmas.List.Splits.{join_with_byte-slice_split}
 use Rattle.trace_types.specs.declared.event.Merged.{Merged}
-use Rattle.trace_types.proofs.Decimals.{same_number}
+use Rattle.trace_types.proofs.Decimals.{same_number, below_wide}
 use Rattle.event_list.specs.Lines.{words_of, line_text, IsEvent, IsLine, AreLines, IsEventList}
 use Rattle.event_list.specs.Order.{RiseFrom}
-use Rattle.event_list.proofs.InRange.{below_wide}
 use Rattle.event_list.proofs.Spelling.{NoEnd, are_words, split_joined, joined_no_end, first_line_is, has_end}
 
 -- the events of the lines before the rest: with events of the rest they are events of the whole, and every reading of the whole goes on so

@@ -12,12 +12,11 @@ use Rattle.std.proofs.lemmas.Str.Parse.{digit_from_value}
 use Rattle.std.proofs.lemmas.Bool.{ne_eqb}
 use Rattle.std.proofs.lemmas.List.{map-append}
 use Rattle.trace_types.specs.ByteTexts.{byte_text, spelled, is_plain, hex_digit}
-use Rattle.trace_types.proofs.Decimals.{wide}
+use Rattle.trace_types.proofs.Decimals.{wide, below_wide}
 use Rattle.trace_types.specs.declared.event.Merged.{Merged}
 use Rattle.trace_types.specs.declared.event.KernelEvent.{KernelEvent}
 use Rattle.trace_types.specs.declared.event.KernelEvent.TheVariants.{Switch}
 use Rattle.event_list.specs.Lines.{kind_words, words_of, IsKind, IsEvent}
-use Rattle.event_list.proofs.InRange.{below_wide}
 
 -- every byte of the word is past the space
 abbrev pub IsWord : List ℕ → Type 0

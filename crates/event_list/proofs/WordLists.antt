@@ -4,8 +4,7 @@ use Rattle.std.specs.Int.{w64}
 use Rattle.std.specs.Fmt.{decimal}
 use Rattle.trace_types.specs.Numbers.{IsNumber, IsSigned}
 use Rattle.trace_types.specs.declared.event.Merged.{Merged}
-use Rattle.trace_types.proofs.Decimals.{same_number}
-use Rattle.event_list.proofs.InRange.{below_wide}
+use Rattle.trace_types.proofs.Decimals.{same_number, below_wide}
 use Rattle.trace_types.specs.declared.event.KernelEvent.{KernelEvent}
 use Rattle.trace_types.specs.declared.event.KernelEvent.TheVariants.{Switch}
 use Rattle.event_list.specs.declared.line.SwitchedThread.{SwitchedThread}

@@ -9,7 +9,7 @@ ghost use Rattle.trace_types.specs.declared.event.Merged.{Merged};
 ghost use Rattle.trace_types.specs.declared.event.KernelEvent.{KernelEvent};
 
 use trace_types::{
-    Comm, Event, KernelEvent, Merged, TIME_END, read_comm, read_number, read_signed,
+    Comm, Event, KernelEvent, Merged, TIME_END, read_comm, read_number_below, read_signed,
 };
 
 // A thread of a switch, as three words tell it.
@@ -28,10 +28,10 @@ pub fn read_event(words: &[&[u8]]) -> Option<Merged>
     let [key, host, cpu, time, kind @ ..] = words else {
         return None;
     };
-    let key = number_below(key, TIME_END)?;
-    let host = number_below(host, 64)? as u32;
-    let cpu = number_below(cpu, 1 << 32)? as u32;
-    let time = number_below(time, TIME_END)?;
+    let key = read_number_below(key, TIME_END)?;
+    let host = read_number_below(host, 64)? as u32;
+    let cpu = read_number_below(cpu, 1 << 32)? as u32;
+    let time = read_number_below(time, TIME_END)?;
     if time == 0 {
         return None;
     }
@@ -93,23 +93,10 @@ fn read_thread(tid: &[u8], comm: &[u8], prio: &[u8]) -> Option<SwitchedThread>
     ensures found { IfSome result (λ t. IsThread tid.now comm.now prio.now t) }
     ensures none { IfNone result ((t : SwitchedThread) → ¬ (IsThread tid.now comm.now prio.now t)) }
 {
-    let tid = number_below(tid, 1 << 31)? as u32;
+    let tid = read_number_below(tid, 1 << 31)? as u32;
     let comm = read_comm(comm)?;
     let prio = read_prio(prio)?;
     Some(SwitchedThread { tid, prio, comm })
-}
-
-// A number below a limit.
-fn number_below(word: &[u8], limit: u64) -> Option<u64>
-    ensures found { IfSome result (λ n. IsNumber word.now n × (n < limit)) }
-    ensures none { IfNone result ((n : ℕ) → n < limit → ¬ (IsNumber word.now n)) }
-{
-    let number = read_number(word)?;
-    if number < u128::from(limit) {
-        Some(number as u64)
-    } else {
-        None
-    }
 }
 
 fn read_prio(word: &[u8]) -> Option<i32>

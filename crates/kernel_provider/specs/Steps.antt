@@ -2,7 +2,7 @@
 use Rattle.std.specs.Prelude.{ℕ, Bool, nat_lt, max, if◌then◌else◌, List, [], ◌∷◌, ◌++◌, unwrap_or, is_some}
 use Rattle.std.specs.List.{position_or_len}
 use Rattle.std.specs.Map.{lookup, keys_of}
-use Rattle.indexmap.specs.IndexMap.{insert_entry}
+pub use Rattle.indexmap.specs.IndexMap.{insert_entry}
 use Rattle.trace_types.specs.declared.path.Path.{Path as AttributePath}
 use Rattle.trace_types.specs.declared.value.Value.{Value}
 use Rattle.trace_types.specs.declared.value.Value.TheVariants.{Null}

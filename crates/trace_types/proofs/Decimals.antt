@@ -162,6 +162,18 @@ not_utf8_signed bs h z fits e = h (subst IsUtf8 (sym e) (IsUtf8-from_ascii (sign
 pub same_number : (m n : ℕ) → m < 2 ^ 128 → n < 2 ^ 128 → decimal m ≡ decimal n → m ≡ n
 same_number m n g h e = sym (decimal_is_IsNumeral_wide m (wide m g)).1 ∙ (ap (digits_value 10) e ∙ (decimal_is_IsNumeral_wide n (wide n h)).1)
 
+-- a number below a limit of 64 bits has 128 bits
+pub below_wide : (n limit : ℕ) → n < limit → limit < 2 ^ 64 → n < 2 ^ 128
+below_wide n limit below least = lt_of_lt_of_le (trans n limit _ below least) (lit≤ tt)
+  where
+    trans : (a b c : ℕ) → a < b → b < c → a < c
+    trans a b c h g = omega arith
+
+-- a word of a number that isn't below the limit is no word of one that is
+pub too_large : (word : List ℕ) (m n limit : ℕ) → word ≡ decimal m → m < 2 ^ 128 → limit ≤ m → limit < 2 ^ 64 → n < limit → word ≢ decimal n
+too_large word m n limit is m_wide large least below e =
+    let same : m ≡ n = same_number m n m_wide (below_wide n limit below least) (sym is ∙ e) in omega (arith, same, large, below)
+
 -- `from_utf8`, when it refuses
 pub refused : {A X : Type 0} (P : A → Type 0) (N : Type 0) (Q : X → Type 0) (r : Result A X) → MatchResult r P (λ e. N × Q e) → None ≡ result_ok r → N
 refused P N Q (Ok x) h e = absurd (cc)

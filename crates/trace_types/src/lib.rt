@@ -14,7 +14,7 @@ pub use byte_text::write_byte_text;
 pub use comm::{Comm, read_comm};
 pub use event::{Event, KernelEvent, Merged, TIME_END};
 pub use memory::OutOfMemory;
-pub use number::{read_number, read_signed};
+pub use number::{read_number, read_number_below, read_signed};
 pub use path::{CpuLeaf, Path, ThreadKey, ThreadLeaf, write_path};
 pub use text::Text;
 pub use value::Value;

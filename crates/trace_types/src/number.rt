@@ -17,6 +17,19 @@ pub fn read_number(text: &[u8]) -> Option<u128>
     }
 }
 
+/// Reads a number below a limit. `None` comes exactly where the text spells none.
+pub fn read_number_below(text: &[u8], limit: u64) -> Option<u64>
+    ensures found { IfSome result (λ n. IsNumber text.now n × (n < limit)) }
+    ensures none { IfNone result ((n : ℕ) → n < limit → ¬ (IsNumber text.now n)) }
+{
+    let number = read_number(text)?;
+    if number < u128::from(limit) {
+        Some(number as u64)
+    } else {
+        None
+    }
+}
+
 /// Reads a number from -2^63 to 2^63 - 1. `None` comes exactly where the text spells none; `-0`
 /// is no number.
 pub fn read_signed(text: &[u8]) -> Option<i64>

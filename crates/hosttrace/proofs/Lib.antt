@@ -1,0 +1,6 @@
+pub mod Parts
+pub mod WordPlaces
+pub mod RowValues
+pub mod Replayed
+pub mod Listed
+pub mod Refused

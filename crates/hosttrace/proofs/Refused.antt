@@ -1,0 +1,12 @@
+-- What is known of the bytes that were read holds of the file in a store that tells its files.
+use Rattle.std.proofs.Common.{◌≡◌, ℕ, ◌≤◌, List, [], length, Option, Some, None, subst}
+use Rattle.std.specs.Prelude.{IfSome}
+use Rattle.trace_types.specs.declared.event.Merged.{Merged}
+use Rattle.ht_outside.specs.Files.{Files, bytes_of}
+use Rattle.event_list.specs.Lines.{IsEventList}
+use Rattle.hosttrace.specs.Outcome.{LIST_LIMIT}
+
+pub no_list : (files : Option Files) (bytes file : List ℕ) → IfSome files (λ f. bytes ≡ bytes_of f [] file) → length bytes ≤ LIST_LIMIT → ((events : List Merged) → ¬ (IsEventList bytes events))
+    → IfSome files (λ f. (length (bytes_of f [] file) ≤ LIST_LIMIT) × ((events : List Merged) → ¬ (IsEventList (bytes_of f [] file) events)))
+no_list (Some f) bytes file is small bad = subst (λ b. (length b ≤ LIST_LIMIT) × ((events : List Merged) → ¬ (IsEventList b events))) is (small, bad)
+no_list None bytes file is small bad = tt

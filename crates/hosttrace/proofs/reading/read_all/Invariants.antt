@@ -1,0 +1,14 @@
+use Rattle.std.proofs.Common.{◌≡◌, ◌-◌, ◌≤◌, IfSome, length}
+use Rattle.ht_outside.specs.Files.{bytes_of}
+use Rattle.hosttrace.proofs.Parts.{IsFront}
+use Rattle.hosttrace.proofs.reading.read_all.Given as goal
+
+abbrev pub invariant-loop-bytes : goal.invariant-loop-bytes
+invariant-loop-bytes g l =
+    IfSome (g.S.Store.holds l.fn.store) (λ files. IsFront (bytes_of files l.dir l.name) l.bytes.items)
+    × (g.S.Store.holds l.store ≡ g.S.Store.holds l.fn.store)
+    × (g.S.Store.faults l.fn.store ≤ g.S.Store.faults l.store)
+    × (length l.bytes.items ≤ 268435457)
+
+abbrev pub decreases-loop-bytes : goal.decreases-loop-bytes
+decreases-loop-bytes g l = 268435457 - length l.bytes.items

@@ -1,0 +1,6 @@
+pub mod Words
+pub mod Statuses
+pub mod Reading
+pub mod Rows
+pub mod StateText
+pub mod Outcome

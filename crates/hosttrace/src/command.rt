@@ -1,0 +1,22 @@
+//! What the words ask for.
+use trace_types::Text;
+
+/// Where events come from.
+#[derive(Debug, Drop)]
+pub enum Input {
+    /// An event list in this file.
+    List(Text),
+}
+
+/// A command that runs on one thread.
+#[derive(Debug, Drop)]
+pub enum PlainCommand {
+    /// The state at an instant, in ns.
+    State { input: Input, at: u64 },
+}
+
+/// A command.
+#[derive(Debug, Drop)]
+pub enum Command {
+    Plain(PlainCommand),
+}

@@ -1,0 +1,17 @@
+//! The commands of hosttrace: words in, a text out, and a status that says what happened.
+#![tactic(auto)]
+
+mod command;
+mod commands;
+mod reading;
+mod report;
+mod rows;
+mod state_text;
+mod status;
+mod words;
+mod writing;
+
+pub use command::{Command, Input, PlainCommand};
+pub use commands::{run, run_plain};
+pub use status::{Limit, ListFile, Refusal, Status};
+pub use words::{WordsError, parse_words};

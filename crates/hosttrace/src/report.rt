@@ -1,0 +1,63 @@
+//! The line that says on the sink for errors how a command ended.
+ghost use Rattle.hosttrace.specs.Outcome.{IsReported};
+
+use crate::status::{Limit, ListFile, Refusal, Status};
+use crate::writing::write_text;
+use ht_outside::{Sink, SinkError};
+use std::alloc::Global;
+use std::fmt;
+use std::io::Write;
+use trace_types::OutOfMemory;
+
+impl fmt::Display for Refusal {
+    fn fmt<W: fmt::Write>(&self, f: &mut fmt::Formatter<W>) -> fmt::Result {
+        match *self {
+            Refusal::BadList {
+                file: ListFile::Events,
+                line,
+            } => write!(f, "list line {line}"),
+            Refusal::TooLarge { what: Limit::File } => write!(f, "too large: file"),
+        }
+    }
+}
+
+/// Writes the line of a status that isn't `Done`, and answers the status: another one where the
+/// line couldn't be written.
+pub fn report<E: Sink>(alloc: Global, status: Status, err: &mut E) -> Status
+    ensures { IsReported status result (E.faults err.old) (E.faults err.new) }
+{
+    let Status::Refused(refusal) = status else {
+        return report_line(status, fixed_line(&status), err);
+    };
+    match refusal_line(alloc, refusal) {
+        Ok(line) => report_line(status, &line, err),
+        Err(OutOfMemory) => report_line(Status::NoMemory, fixed_line(&Status::NoMemory), err),
+    }
+}
+
+fn report_line<E: Sink>(status: Status, line: &[u8], err: &mut E) -> Status
+    ensures { IsReported status result (E.faults err.old) (E.faults err.new) }
+{
+    match write_text(err, line) {
+        Ok(()) => status,
+        Err(SinkError::Failed) => Status::WriteFault,
+        Err(SinkError::OutOfMemory) => Status::NoMemory,
+    }
+}
+
+// The line of a status that is no refusal.
+fn fixed_line(status: &Status) -> &'static [u8] {
+    match status {
+        Status::Done | Status::Refused(_) => b"",
+        Status::Usage => b"usage\n",
+        Status::ReadFault => b"read fault\n",
+        Status::WriteFault => b"write fault\n",
+        Status::NoMemory => b"out of memory\n",
+    }
+}
+
+fn refusal_line(alloc: Global, refusal: Refusal) -> Result<Vec<u8>, OutOfMemory> {
+    let mut line = Vec::new(alloc);
+    writeln!(line, "{refusal}").map_err(|_| OutOfMemory)?;
+    Ok(line)
+}
