@@ -4,9 +4,9 @@ ghost use Rattle.hosttrace.specs.Outcome.{Means, PlainMeans, StateMeans};
 
 use crate::command::{Command, Input, PlainCommand};
 use crate::reading::{ReadError, read_file};
-use crate::report::report;
 use crate::state_text::state_text;
 use crate::status::{Limit, ListFile, Refusal, Status};
+use crate::status_line::write_status;
 use crate::words::{WordsError, parse_words};
 use crate::writing::write_text;
 use event_list::{ListError, read_list};
@@ -40,8 +40,8 @@ pub fn run<R, S: Store, K: Sink, E: Sink, G: Gate + Sync>(
 {
     match parse_words(alloc, words) {
         Ok(Command::Plain(command)) => run_plain(rt, alloc, &command, store, out, err),
-        Err(WordsError::Usage) => report(alloc, Status::Usage, err),
-        Err(WordsError::OutOfMemory) => report(alloc, Status::NoMemory, err),
+        Err(WordsError::Usage) => write_status(alloc, Status::Usage, err),
+        Err(WordsError::OutOfMemory) => write_status(alloc, Status::NoMemory, err),
     }
 }
 
@@ -70,7 +70,7 @@ pub fn run_plain<R, S: Store, K: Sink, E: Sink>(
     let PlainCommand::State { input, at } = command;
     let Input::List(file) = input;
     let status = state(alloc, file, *at, store, out);
-    report(alloc, status, err)
+    write_status(alloc, status, err)
 }
 
 // The state at an instant, of an event list.

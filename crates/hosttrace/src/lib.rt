@@ -4,14 +4,15 @@
 mod command;
 mod commands;
 mod reading;
-mod report;
 mod rows;
 mod state_text;
 mod status;
+mod status_line;
 mod words;
 mod writing;
 
 pub use command::{Command, Input, PlainCommand};
 pub use commands::{run, run_plain};
 pub use status::{Limit, ListFile, Refusal, Status};
+pub use status_line::write_status;
 pub use words::{WordsError, parse_words};

@@ -23,19 +23,19 @@ impl fmt::Display for Refusal {
 
 /// Writes the line of a status that isn't `Done`, and answers the status: another one where the
 /// line couldn't be written.
-pub fn report<E: Sink>(alloc: Global, status: Status, err: &mut E) -> Status
+pub fn write_status<E: Sink>(alloc: Global, status: Status, err: &mut E) -> Status
     ensures { IsReported status result (E.faults err.old) (E.faults err.new) }
 {
     let Status::Refused(refusal) = status else {
-        return report_line(status, fixed_line(&status), err);
+        return write_line(status, fixed_line(&status), err);
     };
     match refusal_line(alloc, refusal) {
-        Ok(line) => report_line(status, &line, err),
-        Err(OutOfMemory) => report_line(Status::NoMemory, fixed_line(&Status::NoMemory), err),
+        Ok(line) => write_line(status, &line, err),
+        Err(OutOfMemory) => write_line(Status::NoMemory, fixed_line(&Status::NoMemory), err),
     }
 }
 
-fn report_line<E: Sink>(status: Status, line: &[u8], err: &mut E) -> Status
+fn write_line<E: Sink>(status: Status, line: &[u8], err: &mut E) -> Status
     ensures { IsReported status result (E.faults err.old) (E.faults err.new) }
 {
     match write_text(err, line) {

@@ -1,0 +1,37 @@
+//! Runs words over one file in memory.
+use hosttrace::{Status, run};
+use ht_outside::{MemorySink, MemoryStore, OpenGate};
+use std::alloc::AllocGlobal;
+use std::test::Fail;
+
+/// What a run answered and wrote.
+#[derive(Debug, Drop)]
+pub struct Ran {
+    pub status: Status,
+    pub out: Vec<u8>,
+    pub err: Vec<u8>,
+}
+
+/// Runs the words of a line, where a file of this name lies in the folder that the program was
+/// called in.
+pub fn run_on<R: AllocGlobal>(rt: &R, line: &str, name: &str, bytes: &[u8]) -> Result<Ran, Fail> {
+    let alloc = rt.alloc();
+    let mut words = Vec::new(alloc);
+    for word in line.split_whitespace() {
+        words.push(String::from_str(alloc, word)?)?;
+    }
+    let mut store = MemoryStore::new(alloc);
+    store.put(b"", name.as_bytes(), bytes)?;
+    let mut out = MemorySink {
+        bytes: Vec::new(alloc),
+    };
+    let mut err = MemorySink {
+        bytes: Vec::new(alloc),
+    };
+    let status = run(rt, alloc, &words, &mut store, &mut out, &mut err, &OpenGate);
+    Ok(Ran {
+        status,
+        out: out.bytes,
+        err: err.bytes,
+    })
+}

@@ -1,0 +1,15 @@
+//! Tests of whole commands and of calls whose success no contract can promise.
+#![tactic(auto)]
+
+#[cfg(test)]
+mod bad_lists;
+#[cfg(test)]
+mod folders;
+#[cfg(test)]
+mod harness;
+#[cfg(test)]
+mod small_texts;
+#[cfg(test)]
+mod state_runs;
+#[cfg(test)]
+mod step_runs;
