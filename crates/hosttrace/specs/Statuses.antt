@@ -1,5 +1,12 @@
--- The exit statuses (this project's own).
-use Rattle.std.specs.Prelude.{ℕ}
+-- The exit statuses, and the lines that tell them (this project's own).
+use Rattle.std.specs.Prelude.{◌⊎◌, ℕ, List, [], ◌∷◌, ◌++◌, codes, Option}
+use Rattle.std.specs.Fmt.{decimal}
+use Rattle.std.specs.Io.KnownBytes.{Appends}
+use Rattle.ht_outside.specs.Faults.{HasRisen}
+use Rattle.hosttrace.specs.declared.status.Refusal.{Refusal}
+use Rattle.hosttrace.specs.declared.status.Refusal.TheVariants.{BadList, TooLarge}
+use Rattle.hosttrace.specs.declared.status.ListFile.TheVariants.{Events}
+use Rattle.hosttrace.specs.declared.status.Limit.TheVariants.{File}
 use Rattle.hosttrace.specs.declared.status.Status.{Status}
 use Rattle.hosttrace.specs.declared.status.Status.TheVariants.{Done, Usage, Refused, ReadFault, WriteFault, NoMemory}
 
@@ -10,3 +17,25 @@ code_of (Refused refusal) = 2
 code_of ReadFault = 3
 code_of WriteFault = 4
 code_of NoMemory = 5
+
+abbrev pub refusal_text : Refusal → List ℕ
+refusal_text (BadList Events line) = codes "list line " ++ decimal line
+refusal_text (TooLarge File) = codes "too large: file"
+
+-- the line that tells a status; Done has none
+abbrev pub status_line : Status → List ℕ
+status_line Done = []
+status_line Usage = codes "usage\n"
+status_line (Refused refusal) = refusal_text refusal ++ 10 ∷ []
+status_line ReadFault = codes "read fault\n"
+status_line WriteFault = codes "write fault\n"
+status_line NoMemory = codes "out of memory\n"
+
+-- a sink of these bytes and faults, before and after, was told a status: it gained the line, but that the line of WriteFault may have failed, and nothing is said where memory ran out
+abbrev pub IsTold : Status → Option (List ℕ) → Option (List ℕ) → ℕ → ℕ → Type 0
+IsTold Done old new faults faults_after = Appends old new (status_line Done)
+IsTold Usage old new faults faults_after = Appends old new (status_line Usage)
+IsTold (Refused refusal) old new faults faults_after = Appends old new (status_line (Refused refusal))
+IsTold ReadFault old new faults faults_after = Appends old new (status_line ReadFault)
+IsTold WriteFault old new faults faults_after = Appends old new (status_line WriteFault) ⊎ HasRisen faults faults_after
+IsTold NoMemory old new faults faults_after = Unit {0}

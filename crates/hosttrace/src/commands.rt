@@ -1,6 +1,7 @@
 //! The top calls, and what each command does.
 ghost use Rattle.std.specs.Prelude.{◌≡◌, [], map, string_bytes};
 ghost use Rattle.hosttrace.specs.Outcome.{Means, PlainMeans, StateMeans};
+ghost use Rattle.hosttrace.specs.Statuses.{IsTold};
 
 use crate::command::{Command, Input, PlainCommand};
 use crate::reading::{ReadError, read_file};
@@ -36,6 +37,7 @@ pub fn run<R, S: Store, K: Sink, E: Sink, G: Gate + Sync>(
       err_faults = E.faults err.old;
       err_faults_after = E.faults err.new;
     }) result }
+    ensures told { IsTold result (E.contents err.old) (E.contents err.new) (E.faults err.old) (E.faults err.new) }
     ensures keeps { S.holds store.new ≡ S.holds store.old }
 {
     match parse_words(alloc, words) {
@@ -65,6 +67,7 @@ pub fn run_plain<R, S: Store, K: Sink, E: Sink>(
       err_faults = E.faults err.old;
       err_faults_after = E.faults err.new;
     }) result }
+    ensures told { IsTold result (E.contents err.old) (E.contents err.new) (E.faults err.old) (E.faults err.new) }
     ensures keeps { S.holds store.new ≡ S.holds store.old }
 {
     let PlainCommand::State { input, at } = command;

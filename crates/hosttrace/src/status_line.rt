@@ -1,5 +1,9 @@
 //! The line that says on the sink for errors how a command ended.
+ghost use Rattle.std.specs.Prelude.{◌≡◌, ◌++◌, ◌∷◌, [], IfOk};
 ghost use Rattle.hosttrace.specs.Outcome.{IsReported};
+ghost use Rattle.hosttrace.specs.Statuses.{IsTold, status_line, refusal_text};
+ghost use Rattle.hosttrace.specs.declared.status.Refusal.{Refusal};
+ghost use Rattle.hosttrace.specs.declared.status.Status.TheVariants as statuses;
 
 use crate::status::{Limit, ListFile, Refusal, Status};
 use crate::writing::write_text;
@@ -10,6 +14,11 @@ use std::io::Write;
 use trace_types::OutOfMemory;
 
 impl fmt::Display for Refusal {
+    ghost use Rattle.std.specs.Prelude.{Some};
+    ghost use Rattle.hosttrace.specs.Statuses.{refusal_text};
+
+    ghost output = { λ r. Some (refusal_text r) };
+
     fn fmt<W: fmt::Write>(&self, f: &mut fmt::Formatter<W>) -> fmt::Result {
         match *self {
             Refusal::BadList {
@@ -24,7 +33,8 @@ impl fmt::Display for Refusal {
 /// Writes the line of a status that isn't `Done`, and answers the status: another one where the
 /// line couldn't be written.
 pub fn write_status<E: Sink>(alloc: Global, status: Status, err: &mut E) -> Status
-    ensures { IsReported status result (E.faults err.old) (E.faults err.new) }
+    ensures answer { IsReported status result (E.faults err.old) (E.faults err.new) }
+    ensures told { IsTold result (E.contents err.old) (E.contents err.new) (E.faults err.old) (E.faults err.new) }
 {
     let Status::Refused(refusal) = status else {
         return write_line(status, fixed_line(&status), err);
@@ -36,7 +46,9 @@ pub fn write_status<E: Sink>(alloc: Global, status: Status, err: &mut E) -> Stat
 }
 
 fn write_line<E: Sink>(status: Status, line: &[u8], err: &mut E) -> Status
-    ensures { IsReported status result (E.faults err.old) (E.faults err.new) }
+    requires { line.now ≡ status_line status }
+    ensures answer { IsReported status result (E.faults err.old) (E.faults err.new) }
+    ensures told { IsTold result (E.contents err.old) (E.contents err.new) (E.faults err.old) (E.faults err.new) }
 {
     match write_text(err, line) {
         Ok(()) => status,
@@ -46,7 +58,10 @@ fn write_line<E: Sink>(status: Status, line: &[u8], err: &mut E) -> Status
 }
 
 // The line of a status that is no refusal.
-fn fixed_line(status: &Status) -> &'static [u8] {
+fn fixed_line(status: &Status) -> &'static [u8]
+    requires { (refusal : Refusal) → status.now ≡ statuses.Refused refusal → ⊥ }
+    ensures { result.now ≡ status_line status.now }
+{
     match status {
         Status::Done | Status::Refused(_) => b"",
         Status::Usage => b"usage\n",
@@ -56,7 +71,9 @@ fn fixed_line(status: &Status) -> &'static [u8] {
     }
 }
 
-fn refusal_line(alloc: Global, refusal: Refusal) -> Result<Vec<u8>, OutOfMemory> {
+fn refusal_line(alloc: Global, refusal: Refusal) -> Result<Vec<u8>, OutOfMemory>
+    ensures { IfOk result (λ line. line.items ≡ refusal_text refusal ++ 10 ∷ []) }
+{
     let mut line = Vec::new(alloc);
     writeln!(line, "{refusal}").map_err(|_| OutOfMemory)?;
     Ok(line)
