@@ -4,3 +4,4 @@ pub mod RowValues
 pub mod Replayed
 pub mod Listed
 pub mod Refused
+pub mod Written

@@ -4,3 +4,4 @@ pub mod Reading
 pub mod Rows
 pub mod StateText
 pub mod Outcome
+pub mod Writing

@@ -68,3 +68,12 @@ Means words seen (Refused refusal) = (c : Command) × IsCommand words c × Comma
 -- the status that is answered is the one that was reported, or tells why its line couldn't be written
 abbrev pub IsReported : Status → Status → ℕ → ℕ → Type 0
 IsReported status answered faults faults_after = (answered ≡ status) ⊎ (((answered ≡ WriteFault) × HasRisen faults faults_after) ⊎ (answered ≡ NoMemory))
+
+-- where the words or the input are refused, and after a fault of the store, the sink for the text holds what it held before
+abbrev pub IsUntouched : Status → Option (List ℕ) → Option (List ℕ) → Type 0
+IsUntouched Done old new = Unit {0}
+IsUntouched Usage old new = new ≡ old
+IsUntouched (Refused refusal) old new = new ≡ old
+IsUntouched ReadFault old new = new ≡ old
+IsUntouched WriteFault old new = Unit {0}
+IsUntouched NoMemory old new = Unit {0}

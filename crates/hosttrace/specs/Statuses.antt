@@ -3,6 +3,7 @@ use Rattle.std.specs.Prelude.{◌⊎◌, ℕ, List, [], ◌∷◌, ◌++◌, cod
 use Rattle.std.specs.Fmt.{decimal}
 use Rattle.std.specs.Io.KnownBytes.{Appends}
 use Rattle.ht_outside.specs.Faults.{HasRisen}
+use Rattle.hosttrace.specs.Writing.{AppendsFront}
 use Rattle.hosttrace.specs.declared.status.Refusal.{Refusal}
 use Rattle.hosttrace.specs.declared.status.Refusal.TheVariants.{BadList, TooLarge}
 use Rattle.hosttrace.specs.declared.status.ListFile.TheVariants.{Events}
@@ -31,11 +32,11 @@ status_line ReadFault = codes "read fault\n"
 status_line WriteFault = codes "write fault\n"
 status_line NoMemory = codes "out of memory\n"
 
--- a sink of these bytes and faults, before and after, was told a status: it gained the line, but that the line of WriteFault may have failed, and nothing is said where memory ran out
+-- a sink of these bytes and faults, before and after, was told a status: it gained the line; where the sink failed or memory ran out, a front of a status's line
 abbrev pub IsTold : Status → Option (List ℕ) → Option (List ℕ) → ℕ → ℕ → Type 0
 IsTold Done old new faults faults_after = Appends old new (status_line Done)
 IsTold Usage old new faults faults_after = Appends old new (status_line Usage)
 IsTold (Refused refusal) old new faults faults_after = Appends old new (status_line (Refused refusal))
 IsTold ReadFault old new faults faults_after = Appends old new (status_line ReadFault)
-IsTold WriteFault old new faults faults_after = Appends old new (status_line WriteFault) ⊎ HasRisen faults faults_after
-IsTold NoMemory old new faults faults_after = Unit {0}
+IsTold WriteFault old new faults faults_after = Appends old new (status_line WriteFault) ⊎ (HasRisen faults faults_after × (status : Status) × AppendsFront old new (status_line status))
+IsTold NoMemory old new faults faults_after = (status : Status) × AppendsFront old new (status_line status)

@@ -1,6 +1,6 @@
 //! The top calls, and what each command does.
 ghost use Rattle.std.specs.Prelude.{◌≡◌, [], map, string_bytes};
-ghost use Rattle.hosttrace.specs.Outcome.{Means, PlainMeans, StateMeans};
+ghost use Rattle.hosttrace.specs.Outcome.{IsUntouched, Means, PlainMeans, StateMeans};
 ghost use Rattle.hosttrace.specs.Statuses.{IsTold};
 
 use crate::command::{Command, Input, PlainCommand};
@@ -37,6 +37,7 @@ pub fn run<R, S: Store, K: Sink, E: Sink, G: Gate + Sync>(
       err_faults = E.faults err.old;
       err_faults_after = E.faults err.new;
     }) result }
+    ensures untouched { IsUntouched result (K.contents out.old) (K.contents out.new) }
     ensures told { IsTold result (E.contents err.old) (E.contents err.new) (E.faults err.old) (E.faults err.new) }
     ensures keeps { S.holds store.new ≡ S.holds store.old }
 {
@@ -67,6 +68,7 @@ pub fn run_plain<R, S: Store, K: Sink, E: Sink>(
       err_faults = E.faults err.old;
       err_faults_after = E.faults err.new;
     }) result }
+    ensures untouched { IsUntouched result (K.contents out.old) (K.contents out.new) }
     ensures told { IsTold result (E.contents err.old) (E.contents err.new) (E.faults err.old) (E.faults err.new) }
     ensures keeps { S.holds store.new ≡ S.holds store.old }
 {
@@ -95,6 +97,7 @@ fn state<S: Store, K: Sink>(
       err_faults = 0;
       err_faults_after = 0;
     }) result }
+    ensures untouched { IsUntouched result (K.contents out.old) (K.contents out.new) }
     ensures keeps { S.holds store.new ≡ S.holds store.old }
 {
     let bytes = match read_file(alloc, store, b"", file.as_bytes()) {
