@@ -5,3 +5,4 @@ pub mod Replayed
 pub mod Listed
 pub mod Refused
 pub mod Written
+pub mod Complete

@@ -1,5 +1,5 @@
 -- What a status says of the input and of what was written.
-use Rattle.std.specs.Prelude.{◌≡◌, ◌⊎◌, ℕ, ◌<◌, ◌≤◌, List, [], length, Option, IfSome}
+use Rattle.std.specs.Prelude.{◌≡◌, ◌⊎◌, ℕ, ◌<◌, ◌≤◌, List, [], length, Option, Some, IfSome}
 use Rattle.std.specs.Io.KnownBytes.{Appends}
 use Rattle.trace_types.specs.declared.event.Merged.{Merged}
 use Rattle.ht_outside.specs.Faults.{HasRisen}
@@ -7,7 +7,7 @@ use Rattle.ht_outside.specs.Files.{Files, bytes_of}
 use Rattle.event_list.specs.Lines.{IsEventList}
 use Rattle.kernel_provider.specs.Replay.{state_at}
 use Rattle.hosttrace.specs.StateText.{IsStateText}
-use Rattle.hosttrace.specs.Words.{IsCommand}
+use Rattle.hosttrace.specs.Words.{IsCommand, IsStateCommand}
 use Rattle.hosttrace.specs.declared.command.Command.{Command}
 use Rattle.hosttrace.specs.declared.command.Command.TheVariants.{Plain}
 use Rattle.hosttrace.specs.declared.command.PlainCommand.{PlainCommand}
@@ -77,3 +77,23 @@ IsUntouched (Refused refusal) old new = new ≡ old
 IsUntouched ReadFault old new = new ≡ old
 IsUntouched WriteFault old new = Unit {0}
 IsUntouched NoMemory old new = Unit {0}
+
+-- the words are a command, and its file is an event list within the limit
+pub record IsValid (words : List (List ℕ)) (files : Files) : Type 0 where
+  pub file : List ℕ
+  pub at : ℕ
+  pub is_command : IsStateCommand words file at
+  pub small : length (bytes_of files [] file) ≤ LIST_LIMIT
+  pub events : List Merged
+  pub is_list : IsEventList (bytes_of files [] file) events
+
+-- no call of the store and of the sinks has failed
+pub record IsFaultless (seen : Seen) : Type 0 where
+  pub read : ¬ (HasRisen seen.read_faults seen.read_faults_after)
+  pub out : ¬ (HasRisen seen.out_faults seen.out_faults_after)
+  pub err : ¬ (HasRisen seen.err_faults seen.err_faults_after)
+
+-- a status means what it says, and valid input without a fault comes to Done, or memory ran out
+pub record IsOutcome (words : List (List ℕ)) (seen : Seen) (status : Status) : Type 0 where
+  pub means : Means words seen status
+  pub complete : (files : Files) → seen.files ≡ Some files → IsValid words files → IsFaultless seen → (status ≡ Done) ⊎ (status ≡ NoMemory)

@@ -1,6 +1,6 @@
 //! The top calls, and what each command does.
 ghost use Rattle.std.specs.Prelude.{◌≡◌, [], map, string_bytes};
-ghost use Rattle.hosttrace.specs.Outcome.{IsUntouched, Means, PlainMeans, StateMeans};
+ghost use Rattle.hosttrace.specs.Outcome.{IsOutcome, IsUntouched, PlainMeans, StateMeans};
 ghost use Rattle.hosttrace.specs.Statuses.{IsTold};
 
 use crate::command::{Command, Input, PlainCommand};
@@ -26,7 +26,7 @@ pub fn run<R, S: Store, K: Sink, E: Sink, G: Gate + Sync>(
     err: &mut E,
     _gate: &G,
 ) -> Status
-    ensures headline { Means (map string_bytes words.now) (record {
+    ensures headline { IsOutcome (map string_bytes words.now) (record {
       files = S.holds store.old;
       read_faults = S.faults store.old;
       read_faults_after = S.faults store.new;
