@@ -1,22 +1,44 @@
 -- What stands when some lines of a text were read.
-use Rattle.std.proofs.Common.{◌≡◌, ℕ, ◌<◌, ◌≤◌, ◌^◌, List, [], ◌∷◌, ◌++◌, length, refl, sym, ap, ◌∙◌, subst, append_assoc, append-nil, arith, rules, codes, Bool, true, false, not, eqb}
+use Rattle.std.proofs.Common.{◌≡◌, ◌≢◌, ap₂, ℕ, ◌<◌, ◌≤◌, ◌^◌, List, [], ◌∷◌, ◌++◌, length, refl, sym, ap, ◌∙◌, subst, append_assoc, append-nil, arith, rules, codes, Bool, true, false, not, eqb}
 use Rattle.std.specs.Cmp.Lexicographic.{pointwise, bytes_decides}
 use Rattle.std.specs.Prelude.{flat_map, ◌==◌}
 use Rattle.std.specs.List.{AllByRecursion, slice_split, join_with_byte}
 use Rattle.std.proofs.lemmas.List.Splits.{join_with_byte-slice_split}
 use Rattle.trace_types.specs.declared.event.Merged.{Merged}
 use Rattle.trace_types.proofs.Decimals.{same_number, below_wide}
-use Rattle.event_list.specs.Lines.{words_of, line_text, IsEvent, IsLine, AreLines, IsEventList}
+use Rattle.event_list.specs.Lines.{words_of, line_text, first_line, IsEvent, IsLine, AreLines, EndsBehind}
+use Rattle.std.proofs.lemmas.Grind.{flat_map-append}
 use Rattle.event_list.specs.Order.{RiseFrom}
 use Rattle.event_list.proofs.Spelling.{NoEnd, are_words, split_joined, joined_no_end, first_line_is, has_end}
+
+-- the line of this event, whose key is at least so much, stands at the front
+pub record Begins (least : ℕ) (rest : List ℕ) (m : Merged) : Type 0 where
+  pub after : List ℕ
+  pub spelling : rest ≡ line_text m ++ after
+  pub is_event : IsEvent m
+  pub rises : least ≤ m.key
+
+abbrev begins : (least : ℕ) (rest : List ℕ) (n : Merged) (ns : List Merged) → AreLines least (n ∷ ns) rest → Begins least rest n
+begins least rest n ns g = record { after = flat_map line_text ns; spelling = g.spelling; is_event = g.each.0; rises = g.order.0 }
 
 -- the events of the lines before the rest: with events of the rest they are events of the whole, and every reading of the whole goes on so
 pub record HasRead (whole : List ℕ) (events : List Merged) (least : ℕ) (rest : List ℕ) : Type 0 where
   pub goes_on : (more : List Merged) → AreLines least more rest → AreLines 0 (events ++ more) whole
   pub only : (others : List Merged) → AreLines 0 others whole → (more : List Merged) × AreLines least more rest
+  pub front : List ℕ
+  pub parts : whole ≡ front ++ rest
+  pub lines : AreLines 0 events front
+  pub last : (m : Merged) → (least ≤ m.key → RiseFrom 0 (events ++ m ∷ [])) × (RiseFrom 0 (events ++ m ∷ []) → least ≤ m.key)
 
 pub nothing_read : (whole : List ℕ) → HasRead whole [] 0 whole
-nothing_read whole = record { goes_on = λ more h. h; only = λ others h. (others, h) }
+nothing_read whole = record {
+  goes_on = λ more h. h;
+  only = λ others h. (others, h);
+  front = [];
+  parts = refl;
+  lines = record { spelling = refl; each = tt; order = tt };
+  last = λ m. ((λ h. (omega arith, tt)), λ h. omega arith);
+}
 
 -- all is read
 pub all_read : (whole : List ℕ) (events : List Merged) (least : ℕ) (rest : List ℕ) → HasRead whole events least rest → length rest ≡ 0 → AreLines 0 events whole
@@ -25,39 +47,69 @@ all_read whole events least (x ∷ xs) h e = absurd (omega arith)
 
 -- where the rest begins with no line, the whole is no list of lines
 pub stuck : (whole : List ℕ) (events : List Merged) (least : ℕ) (rest : List ℕ) → HasRead whole events least rest → 0 < length rest
-    → ((n : Merged) (ns : List Merged) → ¬ (AreLines least (n ∷ ns) rest)) → (others : List Merged) → ¬ (AreLines 0 others whole)
+    → ((n : Merged) → ¬ (Begins least rest n)) → (others : List Merged) → ¬ (AreLines 0 others whole)
 stuck whole events least rest h some none others lines = by (h.only others lines).0 (h.only others lines).1
   where
     by : (more : List Merged) → AreLines least more rest → ⊥
     by [] g = omega (arith, ap length g.spelling)
-    by (n ∷ ns) g = none n ns g
+    by (n ∷ ns) g = none n (begins least rest n ns g)
+
+all_one : (events : List Merged) (m : Merged) → AllByRecursion IsEvent (events ++ m ∷ []) → IsEvent m
+all_one [] m h = h.0
+all_one (n ∷ ns) m h = all_one ns m h.1
+
+one_all : (events : List Merged) (m : Merged) → AllByRecursion IsEvent events → IsEvent m → AllByRecursion IsEvent (events ++ m ∷ [])
+one_all [] m h g = (g, tt)
+one_all (n ∷ ns) m h g = (h.0, one_all ns m h.1 g)
+
+-- and the line behind the events is the first bad one
+pub stuck_there : (whole : List ℕ) (events : List Merged) (least : ℕ) (rest : List ℕ) → HasRead whole events least rest → ((n : Merged) → ¬ (Begins least rest n)) → EndsBehind whole events
+stuck_there whole events least rest h none = record {
+  front = h.front;
+  rest = rest;
+  parts = h.parts;
+  lines = h.lines;
+  no_more = λ m after e g. none m (record { after = after; spelling = e; is_event = all_one events m g.each; rises = (h.last m).1 g.order });
+}
 
 line_is : (m : Merged) → line_text m ≡ join_with_byte 32 (words_of m) ++ 10 ∷ []
 line_is m = refl
 
+line_and : (m : Merged) (after : List ℕ) → line_text m ++ after ≡ join_with_byte 32 (words_of m) ++ 10 ∷ after
+line_and m after = append_assoc (join_with_byte 32 (words_of m)) (10 ∷ []) after
+
 -- of a rest that is a line and more
-first_is : (rest line after : List ℕ) (least : ℕ) (n : Merged) (ns : List Merged) → rest ≡ line ++ 10 ∷ after → NoEnd line → AreLines least (n ∷ ns) rest
-    → (line ≡ join_with_byte 32 (words_of n)) × (after ≡ flat_map line_text ns)
-first_is rest line after least n ns e ends g =
-    first_line_is line (join_with_byte 32 (words_of n)) after (flat_map line_text ns) ends (joined_no_end (words_of n) (are_words n g.each.0))
-    (sym e ∙ (g.spelling ∙ append_assoc (join_with_byte 32 (words_of n)) (10 ∷ []) (flat_map line_text ns)))
+first_is : (rest line after : List ℕ) (least : ℕ) (n : Merged) → rest ≡ line ++ 10 ∷ after → NoEnd line → (g : Begins least rest n)
+    → (line ≡ join_with_byte 32 (words_of n)) × (after ≡ g.after)
+first_is rest line after least n e ends g =
+    first_line_is line (join_with_byte 32 (words_of n)) after g.after ends (joined_no_end (words_of n) (are_words n g.is_event))
+    (sym e ∙ (g.spelling ∙ line_and n g.after))
 
-words_are : (rest line after : List ℕ) (least : ℕ) (n : Merged) (ns : List Merged) → rest ≡ line ++ 10 ∷ after → NoEnd line → AreLines least (n ∷ ns) rest → slice_split (λ b. b == 32) line ≡ words_of n
-words_are rest line after least n ns e ends g = ap (slice_split (λ b. b == 32)) (first_is rest line after least n ns e ends g).0 ∙ split_joined _ _ (are_words n g.each.0)
+words_are : (rest line after : List ℕ) (least : ℕ) (n : Merged) → rest ≡ line ++ 10 ∷ after → NoEnd line → Begins least rest n → slice_split (λ b. b == 32) line ≡ words_of n
+words_are rest line after least n e ends g = ap (slice_split (λ b. b == 32)) (first_is rest line after least n e ends g).0 ∙ split_joined _ _ (are_words n g.is_event)
 
-pub no_end : (rest : List ℕ) (least : ℕ) → NoEnd rest → (n : Merged) (ns : List Merged) → ¬ (AreLines least (n ∷ ns) rest)
-no_end rest least ends n ns g = has_end (join_with_byte 32 (words_of n)) (flat_map line_text ns) (subst NoEnd (g.spelling ∙ append_assoc (join_with_byte 32 (words_of n)) (10 ∷ []) (flat_map line_text ns)) ends)
+pub no_end : (rest : List ℕ) (least : ℕ) → NoEnd rest → (n : Merged) → ¬ (Begins least rest n)
+no_end rest least ends n g = has_end (join_with_byte 32 (words_of n)) g.after (subst NoEnd (g.spelling ∙ line_and n g.after) ends)
 
-pub no_event : (rest line after : List ℕ) (least : ℕ) (words : List (List ℕ)) → rest ≡ line ++ 10 ∷ after → NoEnd line → words ≡ slice_split (λ b. b == 32) line → ((m : Merged) → ¬ (IsLine words m)) → (n : Merged) (ns : List Merged) → ¬ (AreLines least (n ∷ ns) rest)
-no_event rest line after least words e ends w none n ns g = none n (record { spelling = w ∙ words_are rest line after least n ns e ends g; is_event = g.each.0 })
+pub no_event : (rest line after : List ℕ) (least : ℕ) (words : List (List ℕ)) → rest ≡ line ++ 10 ∷ after → NoEnd line → words ≡ slice_split (λ b. b == 32) line → ((m : Merged) → ¬ (IsLine words m)) → (n : Merged) → ¬ (Begins least rest n)
+no_event rest line after least words e ends w none n g = none n (record { spelling = w ∙ words_are rest line after least n e ends g; is_event = g.is_event })
 
 same_key : (m n : Merged) → IsEvent m → IsEvent n → words_of m ≡ words_of n → m.key ≡ n.key
 same_key m n h g e = same_number m.key n.key (below_wide m.key (2 ^ 62) h.key (omega arith)) (below_wide n.key (2 ^ 62) g.key (omega arith)) (cc)
 
-pub key_falls : (rest line after : List ℕ) (least : ℕ) (words : List (List ℕ)) (m : Merged) → rest ≡ line ++ 10 ∷ after → NoEnd line → words ≡ slice_split (λ b. b == 32) line → IsLine words m → m.key < least → (n : Merged) (ns : List Merged) → ¬ (AreLines least (n ∷ ns) rest)
-key_falls rest line after least words m e ends w is falls n ns g =
-    let same : m.key ≡ n.key = same_key m n is.is_event g.each.0 (sym is.spelling ∙ (w ∙ words_are rest line after least n ns e ends g)) in
-    omega (arith, same, falls, g.order.0)
+pub key_falls : (rest line after : List ℕ) (least : ℕ) (words : List (List ℕ)) (m : Merged) → rest ≡ line ++ 10 ∷ after → NoEnd line → words ≡ slice_split (λ b. b == 32) line → IsLine words m → m.key < least → (n : Merged) → ¬ (Begins least rest n)
+key_falls rest line after least words m e ends w is falls n g =
+    let same : m.key ≡ n.key = same_key m n is.is_event g.is_event (sym is.spelling ∙ (w ∙ words_are rest line after least n e ends g)) in
+    omega (arith, same, falls, g.rises)
+
+-- keys that rise, with one more at the end
+rise_push : (k : ℕ) (xs : List Merged) (n m : Merged) → RiseFrom k (xs ++ n ∷ []) → n.key ≤ m.key → RiseFrom k ((xs ++ n ∷ []) ++ m ∷ [])
+rise_push k [] n m h g = (h.0, (g, tt))
+rise_push k (x ∷ xs) n m h g = (h.0, rise_push x.key xs n m h.1 g)
+
+rise_last : (k : ℕ) (xs : List Merged) (n m : Merged) → RiseFrom k ((xs ++ n ∷ []) ++ m ∷ []) → n.key ≤ m.key
+rise_last k [] n m h = h.1.0
+rise_last k (x ∷ xs) n m h = rise_last x.key xs n m h.1
 
 nonempty : (xs ys : List ℕ) → xs ++ 10 ∷ ys ≡ [] → ⊥
 nonempty [] ys e = absurd (cc)
@@ -65,7 +117,18 @@ nonempty (x ∷ xs) ys e = absurd (cc)
 
 -- one more line
 pub more_read : (whole : List ℕ) (events : List Merged) (least : ℕ) (rest line after : List ℕ) (words : List (List ℕ)) (m : Merged) → HasRead whole events least rest → rest ≡ line ++ 10 ∷ after → NoEnd line → words ≡ slice_split (λ b. b == 32) line → IsLine words m → least ≤ m.key → HasRead whole (events ++ m ∷ []) m.key after
-more_read whole events least rest line after words m h e ends w is rises = record { goes_on = forward; only = back }
+more_read whole events least rest line after words m h e ends w is rises = record {
+  goes_on = forward;
+  only = back;
+  front = h.front ++ line_text m;
+  parts = h.parts ∙ (ap (λ l. h.front ++ l) (e ∙ ((λ i. line_of i ++ 10 ∷ after) ∙ sym (line_and m after))) ∙ sym (append_assoc h.front (line_text m) after));
+  lines = record {
+    spelling = ap₂ (λ a b. a ++ b) h.lines.spelling (sym (append-nil (line_text m))) ∙ sym (flat_map-append line_text events (m ∷ []));
+    each = one_all events m h.lines.each is.is_event;
+    order = (h.last m).0 rises;
+  };
+  last = λ n. (rise_push 0 events m n ((h.last m).0 rises), rise_last 0 events m n);
+}
   where
     line_of : line ≡ join_with_byte 32 (words_of m)
     line_of = sym (join_with_byte-slice_split 32 line) ∙ ap (join_with_byte 32) (sym w ∙ is.spelling)
@@ -82,9 +145,9 @@ more_read whole events least rest line after words m h e ends w is rises = recor
     by (n ∷ ns) g = (
       ns,
       record {
-        spelling = (first_is rest line after least n ns e ends g).1;
+        spelling = (first_is rest line after least n e ends (begins least rest n ns g)).1;
         each = g.each.1;
-        order = subst (λ k. RiseFrom k ns) (sym (same_key m n is.is_event g.each.0 (sym is.spelling ∙ (w ∙ words_are rest line after least n ns e ends g)))) g.order.1;
+        order = subst (λ k. RiseFrom k ns) (sym (same_key m n is.is_event g.each.0 (sym is.spelling ∙ (w ∙ words_are rest line after least n e ends (begins least rest n ns g))))) g.order.1;
       },
     )
 
@@ -92,9 +155,9 @@ more_read whole events least rest line after words m h e ends w is rises = recor
     back others g = by (h.only others g).0 (h.only others g).1
 
 -- a text with another first line is no event list
-pub other_first : (bytes first text : List ℕ) (b : Bool) → bytes ≡ first ++ 10 ∷ text → NoEnd first → b ≡ not (pointwise eqb first (codes "hosttrace events 1")) → b ≡ true → (events : List Merged) → ¬ (IsEventList bytes events)
-other_first bytes first text b e ends ne is events list =
-    let same = (first_line_is first (codes "hosttrace events 1") text list.0 ends (search rules) (sym e ∙ list.1)).0 in
+pub other_first : (bytes first text : List ℕ) (b : Bool) → bytes ≡ first ++ 10 ∷ text → NoEnd first → b ≡ not (pointwise eqb first (codes "hosttrace events 1")) → b ≡ true → (other : List ℕ) → bytes ≢ first_line ++ other
+other_first bytes first text b e ends ne is other begun =
+    let same = (first_line_is first (codes "hosttrace events 1") text other ends (search rules) (sym e ∙ begun)).0 in
     differ (pointwise eqb first (codes "hosttrace events 1")) ((bytes_decides first (codes "hosttrace events 1")).1 same) (sym ne ∙ is)
   where
     differ : (b : Bool) → b ≡ true → not b ≡ true → ⊥
@@ -105,3 +168,7 @@ other_first bytes first text b e ends ne is events list =
 pub hosts_below : (events : List Merged) → AllByRecursion IsEvent events → AllByRecursion (λ m. m.event.host < 64) events
 hosts_below [] h = tt
 hosts_below (m ∷ ms) h = (h.0.host, hosts_below ms h.1)
+
+-- no line feed at all: no first line
+pub no_first : (bytes : List ℕ) → NoEnd bytes → (other : List ℕ) → bytes ≢ first_line ++ other
+no_first bytes ends other e = has_end (codes "hosttrace events 1") other (subst NoEnd e ends)

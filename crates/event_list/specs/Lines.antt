@@ -1,5 +1,5 @@
 -- The text of merged events: a first line, and one line an event (this project's own format).
-use Rattle.std.specs.Prelude.{◌≡◌, ℕ, ◌^◌, ◌<◌, ◌≤◌, List, [], ◌∷◌, ◌++◌, codes, flat_map, FitsSigned}
+use Rattle.std.specs.Prelude.{◌≡◌, ◌≢◌, ◌⊎◌, ◌+◌, length, ℕ, ◌^◌, ◌<◌, ◌≤◌, List, [], ◌∷◌, ◌++◌, codes, flat_map, FitsSigned}
 use Rattle.std.specs.List.{AllByRecursion, join_with_byte}
 use Rattle.std.specs.Int.{w32, w64}
 use Rattle.std.specs.Fmt.{decimal, signed_decimal}
@@ -58,3 +58,17 @@ pub record AreLines (least : ℕ) (events : List Merged) (text : List ℕ) : Typ
 -- the bytes are the event list of these events
 abbrev pub IsEventList : List ℕ → List Merged → Type 0
 IsEventList bytes events = (text : List ℕ) × (bytes ≡ first_line ++ text) × AreLines 0 events text
+
+-- events stand at the front of a text, line by line, and no line of a further event follows that could stand behind them
+pub record EndsBehind (text : List ℕ) (events : List Merged) : Type 0 where
+  pub front : List ℕ
+  pub rest : List ℕ
+  pub parts : text ≡ front ++ rest
+  pub lines : AreLines 0 events front
+  pub no_more : (m : Merged) (after : List ℕ) → rest ≡ line_text m ++ after → ¬ (AreLines 0 (events ++ m ∷ []) (front ++ line_text m))
+
+-- the first bad line, from 1: the first one, or the one behind the events
+abbrev pub IsFirstBad : List ℕ → ℕ → Type 0
+IsFirstBad bytes line =
+    ((line ≡ 1) × ((text : List ℕ) → bytes ≢ first_line ++ text))
+    ⊎ ((text : List ℕ) × (events : List Merged) × (bytes ≡ first_line ++ text) × EndsBehind text events × (line ≡ length events + 2))

@@ -1,6 +1,6 @@
 //! Reading a whole event list.
-ghost use Rattle.std.specs.Prelude.{◌≡◌, ◌<◌, ℕ, List, [], IfOk, Err, replicate};
-ghost use Rattle.event_list.specs.Lines.{IsEventList, AreLines};
+ghost use Rattle.std.specs.Prelude.{◌≡◌, ◌<◌, ◌+◌, ℕ, List, [], IfOk, Err, length, replicate};
+ghost use Rattle.event_list.specs.Lines.{IsEventList, IsFirstBad, AreLines, EndsBehind};
 ghost use Rattle.std.specs.List.{AllByRecursion};
 ghost use Rattle.event_list.specs.Order.{host_count};
 ghost use Rattle.event_list.specs.declared.list.ListError.TheVariants.{BadLine};
@@ -49,6 +49,7 @@ pub fn read_list(alloc: Global, bytes: &[u8]) -> Result<MergedTrace, ListError>
     ensures events { IfOk result (λ trace. IsEventList bytes.now trace.events.items) }
     ensures names { IfOk result (λ trace. trace.names.items ≡ replicate (host_count trace.events.items) []) }
     ensures bad { (line : ℕ) → result ≡ Err (BadLine line) → (events : List Merged) → ¬ (IsEventList bytes.now events) }
+    ensures line { (line : ℕ) → result ≡ Err (BadLine line) → IsFirstBad bytes.now line }
 {
     let Some((first, text)) = cut_at(bytes, b'\n') else {
         return Err(ListError::BadLine { line: 1 });
@@ -65,6 +66,7 @@ pub fn read_list(alloc: Global, bytes: &[u8]) -> Result<MergedTrace, ListError>
 fn read_lines(alloc: Global, text: &[u8]) -> Result<Vec<Merged>, ListError>
     ensures events { IfOk result (λ events. AreLines 0 events.items text.now) }
     ensures bad { (line : ℕ) → result ≡ Err (BadLine line) → (events : List Merged) → ¬ (AreLines 0 events text.now) }
+    ensures line { (line : ℕ) → result ≡ Err (BadLine line) → (events : List Merged) × EndsBehind text.now events × (line ≡ length events + 2) }
 {
     let mut events = Vec::new(alloc);
     let mut words = Vec::new(alloc);
@@ -89,7 +91,9 @@ fn read_lines(alloc: Global, text: &[u8]) -> Result<Vec<Merged>, ListError>
 }
 
 // The line behind those of the events, which is bad.
-fn bad_line(events: &[Merged]) -> ListError {
+fn bad_line(events: &[Merged]) -> ListError
+    ensures { result ≡ BadLine (length events.now + 2) }
+{
     ListError::BadLine {
         line: (events.len() as u64).saturating_add(2),
     }

@@ -4,7 +4,7 @@ use Rattle.std.specs.Io.KnownBytes.{Appends}
 use Rattle.trace_types.specs.declared.event.Merged.{Merged}
 use Rattle.ht_outside.specs.Faults.{HasRisen}
 use Rattle.ht_outside.specs.Files.{Files, bytes_of}
-use Rattle.event_list.specs.Lines.{IsEventList}
+use Rattle.event_list.specs.Lines.{IsEventList, IsFirstBad}
 use Rattle.kernel_provider.specs.Replay.{state_at}
 use Rattle.hosttrace.specs.StateText.{IsStateText}
 use Rattle.hosttrace.specs.Words.{IsCommand, IsStateCommand}
@@ -44,7 +44,7 @@ pub record IsStateOutput (bytes : List ℕ) (at : ℕ) (text : List ℕ) : Type 
 abbrev pub StateMeans : List ℕ → ℕ → Seen → Status → Type 0
 StateMeans file at seen Done = IfSome seen.files (λ files. (text : List ℕ) × IsStateOutput (bytes_of files [] file) at text × Appends seen.out seen.out_after text)
 StateMeans file at seen Usage = ⊥
-StateMeans file at seen (Refused (BadList list line)) = IfSome seen.files (λ files. (length (bytes_of files [] file) ≤ LIST_LIMIT) × ((events : List Merged) → ¬ (IsEventList (bytes_of files [] file) events)))
+StateMeans file at seen (Refused (BadList list line)) = IfSome seen.files (λ files. (length (bytes_of files [] file) ≤ LIST_LIMIT) × ((events : List Merged) → ¬ (IsEventList (bytes_of files [] file) events)) × IsFirstBad (bytes_of files [] file) line)
 StateMeans file at seen (Refused (TooLarge what)) = IfSome seen.files (λ files. LIST_LIMIT < length (bytes_of files [] file))
 StateMeans file at seen ReadFault = HasRisen seen.read_faults seen.read_faults_after
 StateMeans file at seen WriteFault = HasRisen seen.out_faults seen.out_faults_after ⊎ HasRisen seen.err_faults seen.err_faults_after
