@@ -6,3 +6,4 @@ pub mod Listed
 pub mod Refused
 pub mod Written
 pub mod Complete
+pub mod Partly

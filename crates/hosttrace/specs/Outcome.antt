@@ -7,6 +7,7 @@ use Rattle.ht_outside.specs.Files.{Files, bytes_of}
 use Rattle.event_list.specs.Lines.{IsEventList, IsFirstBad}
 use Rattle.kernel_provider.specs.Replay.{state_at}
 use Rattle.hosttrace.specs.StateText.{IsStateText}
+use Rattle.hosttrace.specs.Writing.{AppendsFront}
 use Rattle.hosttrace.specs.Words.{IsCommand, IsStateCommand}
 use Rattle.hosttrace.specs.declared.command.Command.{Command}
 use Rattle.hosttrace.specs.declared.command.Command.TheVariants.{Plain}
@@ -69,14 +70,28 @@ Means words seen (Refused refusal) = (c : Command) × IsCommand words c × Comma
 abbrev pub IsReported : Status → Status → ℕ → ℕ → Type 0
 IsReported status answered faults faults_after = (answered ≡ status) ⊎ (((answered ≡ WriteFault) × HasRisen faults faults_after) ⊎ (answered ≡ NoMemory))
 
--- where the words or the input are refused, and after a fault of the store, the sink for the text holds what it held before
-abbrev pub IsUntouched : Status → Option (List ℕ) → Option (List ℕ) → Type 0
-IsUntouched Done old new = Unit {0}
-IsUntouched Usage old new = new ≡ old
-IsUntouched (Refused refusal) old new = new ≡ old
-IsUntouched ReadFault old new = new ≡ old
-IsUntouched WriteFault old new = Unit {0}
-IsUntouched NoMemory old new = Unit {0}
+-- the sink for the text holds what it held before, or that and a front of the text of the state at an instant, of all bytes of a file
+abbrev pub IsPartly : List ℕ → ℕ → Option Files → Option (List ℕ) → Option (List ℕ) → Type 0
+IsPartly file at files old new = (new ≡ old) ⊎ IfSome files (λ files. (text : List ℕ) × IsStateOutput (bytes_of files [] file) at text × AppendsFront old new text)
+
+-- what a status leaves in the sink for the text: nothing new where the words or the input are refused and after a fault of the store, else at most a front of the text
+abbrev pub StateLeaves : List ℕ → ℕ → Option Files → Option (List ℕ) → Option (List ℕ) → Status → Type 0
+StateLeaves file at files old new Done = IsPartly file at files old new
+StateLeaves file at files old new Usage = new ≡ old
+StateLeaves file at files old new (Refused refusal) = new ≡ old
+StateLeaves file at files old new ReadFault = new ≡ old
+StateLeaves file at files old new WriteFault = IsPartly file at files old new
+StateLeaves file at files old new NoMemory = IsPartly file at files old new
+
+abbrev pub PlainLeaves : PlainCommand → Option Files → Option (List ℕ) → Option (List ℕ) → Status → Type 0
+PlainLeaves (State (input.List file) at) files old new status = StateLeaves file at files old new status
+
+abbrev pub CommandLeaves : Command → Option Files → Option (List ℕ) → Option (List ℕ) → Status → Type 0
+CommandLeaves (Plain command) files old new status = PlainLeaves command files old new status
+
+-- where the words are no command, nothing new is left
+abbrev pub Leaves : List (List ℕ) → Option Files → Option (List ℕ) → Option (List ℕ) → Status → Type 0
+Leaves words files old new status = (new ≡ old) ⊎ ((c : Command) × IsCommand words c × CommandLeaves c files old new status)
 
 -- the words are a command, and its file is an event list within the limit
 pub record IsValid (words : List (List ℕ)) (files : Files) : Type 0 where

@@ -1,6 +1,6 @@
 //! The top calls, and what each command does.
 ghost use Rattle.std.specs.Prelude.{◌≡◌, [], map, string_bytes};
-ghost use Rattle.hosttrace.specs.Outcome.{IsOutcome, IsUntouched, PlainMeans, StateMeans};
+ghost use Rattle.hosttrace.specs.Outcome.{IsOutcome, Leaves, PlainLeaves, PlainMeans, StateLeaves, StateMeans};
 ghost use Rattle.hosttrace.specs.Statuses.{IsTold};
 
 use crate::command::{Command, Input, PlainCommand};
@@ -37,7 +37,7 @@ pub fn run<R, S: Store, K: Sink, E: Sink, G: Gate + Sync>(
       err_faults = E.faults err.old;
       err_faults_after = E.faults err.new;
     }) result }
-    ensures untouched { IsUntouched result (K.contents out.old) (K.contents out.new) }
+    ensures leaves { Leaves (map string_bytes words.now) (S.holds store.old) (K.contents out.old) (K.contents out.new) result }
     ensures told { IsTold result (E.contents err.old) (E.contents err.new) (E.faults err.old) (E.faults err.new) }
     ensures keeps { S.holds store.new ≡ S.holds store.old }
 {
@@ -68,7 +68,7 @@ pub fn run_plain<R, S: Store, K: Sink, E: Sink>(
       err_faults = E.faults err.old;
       err_faults_after = E.faults err.new;
     }) result }
-    ensures untouched { IsUntouched result (K.contents out.old) (K.contents out.new) }
+    ensures leaves { PlainLeaves command.now (S.holds store.old) (K.contents out.old) (K.contents out.new) result }
     ensures told { IsTold result (E.contents err.old) (E.contents err.new) (E.faults err.old) (E.faults err.new) }
     ensures keeps { S.holds store.new ≡ S.holds store.old }
 {
@@ -97,7 +97,7 @@ fn state<S: Store, K: Sink>(
       err_faults = 0;
       err_faults_after = 0;
     }) result }
-    ensures untouched { IsUntouched result (K.contents out.old) (K.contents out.new) }
+    ensures leaves { StateLeaves file.now at (S.holds store.old) (K.contents out.old) (K.contents out.new) result }
     ensures keeps { S.holds store.new ≡ S.holds store.old }
 {
     let bytes = match read_file(alloc, store, b"", file.as_bytes()) {
