@@ -2,4 +2,3 @@ pub mod InRange
 pub mod WordLists
 pub mod Spelling
 pub mod Reading
-pub mod Cutting

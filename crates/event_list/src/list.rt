@@ -8,9 +8,9 @@ ghost use Rattle.trace_types.specs.declared.event.Merged.{Merged};
 
 use crate::line::read_event;
 use crate::trace::{MergedTrace, NameList};
-use crate::words::{cut_at, split_words};
+use crate::words::split_words;
 use std::alloc::{AllocFailed, Global};
-use trace_types::{Merged, OutOfMemory};
+use trace_types::{Merged, OutOfMemory, cut_at};
 
 const FIRST_LINE: &[u8] = b"hosttrace events 1";
 

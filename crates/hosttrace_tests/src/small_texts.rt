@@ -1,7 +1,9 @@
 //! Small texts: numbers, names and paths.
 use std::str;
 use std::test::Fail;
-use trace_types::{CpuLeaf, Path, Text, ThreadKey, ThreadLeaf, read_comm, read_number, write_path};
+use trace_types::{
+    CpuLeaf, Path, Text, ThreadKey, ThreadLeaf, read_comm, read_number, read_path, write_path,
+};
 
 #[test]
 fn numbers(rt: HostRuntime) {
@@ -58,4 +60,35 @@ fn texts_and_paths(rt: HostRuntime) -> Result<(), Fail> {
     )?;
     assert_eq!(rt; str::from_utf8(&out)?, "h2/Thread/7/Name h0/Cpu/3/Thread");
     Ok(())
+}
+
+#[test]
+fn path_texts(rt: HostRuntime) {
+    let idle = Path::Thread {
+        host: 63,
+        thread: ThreadKey::Idle(4_294_967_295),
+        leaf: ThreadLeaf::Call,
+    };
+    assert_eq!(rt; read_path(b"h63/Thread/0_4294967295/Call"), Some(idle));
+    let softirq = Path::Cpu {
+        host: 0,
+        cpu: 0,
+        leaf: CpuLeaf::Softirq,
+    };
+    assert_eq!(rt; read_path(b"h0/Cpu/0/Softirq"), Some(softirq));
+    for text in [
+        b"h64/Cpu/0/Irq".as_slice(),
+        b"h0/Cpu/4294967296/Irq",
+        b"h0/Cpu/0/Name",
+        b"h0/Thread/0/Name",
+        b"h0/Thread/2147483648/Name",
+        b"h0/Thread/0_4294967296/Name",
+        b"h0/Thread/07/Name",
+        b"h0/Thread/7/Name/",
+        b"h0/Thread/7",
+        b"0/Thread/7/Name",
+        b"",
+    ] {
+        assert_eq!(rt; read_path(text), None);
+    }
 }

@@ -1,3 +1,5 @@
 pub mod Decimals
 pub mod Names
 pub mod Same
+pub mod Cutting
+pub mod PathWords

@@ -1,5 +1,5 @@
 -- Attribute paths as texts, and the order in which they are listed (this project's own format).
-use Rattle.std.specs.Prelude.{ℕ, List, [], ◌∷◌, ◌++◌, codes}
+use Rattle.std.specs.Prelude.{◌≡◌, ◌<◌, ◌≤◌, ◌^◌, ℕ, List, [], ◌∷◌, ◌++◌, codes}
 use Rattle.std.specs.Fmt.{decimal}
 use Rattle.trace_types.specs.declared.path.Path.{Path as AttributePath}
 use Rattle.trace_types.specs.declared.path.Path.TheVariants.{Cpu, Thread}
@@ -52,3 +52,28 @@ abbrev pub place_of : AttributePath → List ℕ
 place_of (Cpu host cpu leaf) = host ∷ 0 ∷ cpu ∷ cpu_leaf_place leaf ∷ []
 place_of (Thread host (Idle cpu) leaf) = host ∷ 1 ∷ cpu ∷ thread_leaf_place leaf ∷ []
 place_of (Thread host (Tid tid) leaf) = host ∷ 2 ∷ tid ∷ thread_leaf_place leaf ∷ []
+
+-- the words of a path, which slashes join behind an h
+abbrev pub path_words : AttributePath → List (List ℕ)
+path_words (Cpu host cpu leaf) = decimal host ∷ codes "Cpu" ∷ decimal cpu ∷ cpu_leaf_text leaf ∷ []
+path_words (Thread host thread leaf) = decimal host ∷ codes "Thread" ∷ thread_text thread ∷ thread_leaf_text leaf ∷ []
+
+-- a processor of 32 bits, or a tid from 1 to 2^31 - 1
+abbrev pub IsThreadKey : ThreadKey → Type 0
+IsThreadKey (Idle cpu) = cpu < 2 ^ 32
+IsThreadKey (Tid tid) = (1 ≤ tid) × (tid < 2 ^ 31)
+
+-- a host below 64, and a processor or a thread in its range
+abbrev pub IsPath : AttributePath → Type 0
+IsPath (Cpu host cpu leaf) = (host < 64) × (cpu < 2 ^ 32)
+IsPath (Thread host thread leaf) = (host < 64) × IsThreadKey thread
+
+-- the text is that of the path
+pub record SpellsPath (text : List ℕ) (p : AttributePath) : Type 0 where
+  pub spelling : text ≡ path_text p
+  pub is_path : IsPath p
+
+-- the words are those of the path
+pub record ArePathWords (words : List (List ℕ)) (p : AttributePath) : Type 0 where
+  pub spelling : words ≡ path_words p
+  pub is_path : IsPath p

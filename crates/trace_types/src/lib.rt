@@ -3,18 +3,22 @@
 
 mod byte_text;
 mod comm;
+mod cut;
 mod event;
 mod memory;
 mod number;
 mod path;
+mod path_text;
 mod text;
 mod value;
 
 pub use byte_text::write_byte_text;
 pub use comm::{Comm, read_comm};
+pub use cut::cut_at;
 pub use event::{Event, KernelEvent, Merged, TIME_END};
 pub use memory::OutOfMemory;
 pub use number::{read_number, read_number_below, read_signed};
 pub use path::{CpuLeaf, Path, ThreadKey, ThreadLeaf, write_path};
+pub use path_text::read_path;
 pub use text::Text;
 pub use value::Value;

@@ -1,5 +1,5 @@
-use Rattle.event_list.proofs.Cutting.{found, not_found}
-use Rattle.event_list.proofs.words.cut_at.Goals as goal
+use Rattle.trace_types.proofs.Cutting.{found, not_found}
+use Rattle.trace_types.proofs.cut.cut_at.Goals as goal
 
 pub returns-clause-found : goal.returns-clause-found
 returns-clause-found c = found c.args.end c.args.text.now c.in_ok-place.place c.in_ok-place.ensures

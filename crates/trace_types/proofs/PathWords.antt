@@ -1,0 +1,154 @@
+-- A path's words, and where its text is cut.
+use Rattle.std.proofs.Common.{◌≡◌, ◌≢◌, ℕ, ◌<◌, ◌≤◌, ◌^◌, List, [], ◌∷◌, ◌++◌, refl, sym, ap₂, ◌∙◌, subst, arith, length, get_or, take, drop, take_all, ◌-◌, codes, append_assoc}
+use Rattle.std.specs.List.{AllByRecursion}
+use Rattle.std.specs.Prelude.{Option, Some, None, IfNone}
+use Rattle.std.specs.Fmt.{decimal}
+use Rattle.std.specs.Str.Parse.{AllDigits}
+use Rattle.std.proofs.lemmas.Fmt.{decimal_is_IsNumeral_wide}
+use Rattle.std.proofs.lemmas.Str.Parse.{digit_from_value}
+use Rattle.trace_types.proofs.Decimals.{wide, below_wide, same_number}
+use Rattle.trace_types.specs.declared.path.Path.{Path as AttributePath}
+use Rattle.trace_types.specs.declared.path.Path.TheVariants.{Cpu, Thread}
+use Rattle.trace_types.specs.declared.path.ThreadKey.{ThreadKey}
+use Rattle.trace_types.specs.declared.path.ThreadKey.TheVariants.{Idle, Tid}
+use Rattle.trace_types.specs.Paths.{path_text, path_words, thread_text, cpu_leaf_text, thread_leaf_text, IsPath, IsThreadKey, SpellsPath, ArePathWords}
+
+abbrev pub NoSlash : List ℕ → Type 0
+NoSlash = AllByRecursion (λ b. b ≢ 47)
+
+digits_no_slash : (ds : List ℕ) → AllDigits 10 ds → NoSlash ds
+digits_no_slash [] h = tt
+digits_no_slash (d ∷ ds) h = let k = (digit_from_value d h.0).0 in (λ e. omega (arith, k, e), digits_no_slash ds h.1)
+
+decimal_no_slash : (n limit : ℕ) → n < limit → limit < 2 ^ 64 → NoSlash (decimal n)
+decimal_no_slash n limit h g = digits_no_slash (decimal n) (decimal_is_IsNumeral_wide n (wide n (below_wide n limit h g))).0.1
+
+key_no_slash : (k : ThreadKey) → IsThreadKey k → NoSlash (thread_text k)
+key_no_slash (Idle cpu) h = ((λ e. omega (arith, e)), ((λ e. omega (arith, e)), decimal_no_slash cpu (2 ^ 32) h (omega arith)))
+key_no_slash (Tid tid) h = decimal_no_slash tid (2 ^ 31) h.1 (omega arith)
+
+-- a text is cut at its first slash
+cut_same : (xs ys a b : List ℕ) → NoSlash xs → NoSlash ys → xs ++ 47 ∷ a ≡ ys ++ 47 ∷ b → (xs ≡ ys) × (a ≡ b)
+cut_same [] [] a b h g e = (refl, cc)
+cut_same [] (y ∷ ys) a b h g e = absurd (g.0 (cc))
+cut_same (x ∷ xs) [] a b h g e = absurd (h.0 (cc))
+cut_same (x ∷ xs) (y ∷ ys) a b h g e = let more = cut_same xs ys a b h.1 g.1 (cc) in (ap₂ (λ z zs. z ∷ zs) (cc) more.0, more.1)
+
+has_slash : (xs a : List ℕ) → NoSlash (xs ++ 47 ∷ a) → ⊥
+has_slash [] a h = h.0 refl
+has_slash (x ∷ xs) a h = has_slash xs a h.1
+
+-- the four words of a path, and that three of them have no slash
+record Words (p : AttributePath) : Type 0 where
+  host : List ℕ
+  kind : List ℕ
+  key : List ℕ
+  leaf : List ℕ
+  words : path_words p ≡ host ∷ kind ∷ key ∷ leaf ∷ []
+  text : path_text p ≡ 104 ∷ (host ++ 47 ∷ (kind ++ 47 ∷ (key ++ 47 ∷ leaf)))
+  host_whole : NoSlash host
+  kind_whole : NoSlash kind
+  key_whole : NoSlash key
+
+-- a path's text, with its parts from the right
+from_right : (a s b l : List ℕ) → codes "h" ++ a ++ s ++ b ++ codes "/" ++ l ≡ 104 ∷ (a ++ (s ++ (b ++ 47 ∷ l)))
+from_right a s b l = append_assoc (codes "h" ++ a ++ s ++ b) (codes "/") l ∙ (append_assoc (codes "h" ++ a ++ s) b (codes "/" ++ l) ∙ append_assoc (codes "h" ++ a) s (b ++ (codes "/" ++ l)))
+
+differs : (a b : ℕ) → a < b → b ≢ a
+differs a b h e = omega (arith, h, e)
+
+words_of : (p : AttributePath) → IsPath p → Words p
+words_of (Cpu host cpu leaf) h = record {
+  host = decimal host;
+  kind = codes "Cpu";
+  key = decimal cpu;
+  leaf = cpu_leaf_text leaf;
+  words = refl;
+  text = from_right (decimal host) (codes "/Cpu/") (decimal cpu) (cpu_leaf_text leaf);
+  host_whole = decimal_no_slash host 64 h.0 (omega arith);
+  kind_whole = (differs 47 67 (omega arith), (differs 47 112 (omega arith), (differs 47 117 (omega arith), tt)));
+  key_whole = decimal_no_slash cpu (2 ^ 32) h.1 (omega arith);
+}
+words_of (Thread host thread leaf) h = record {
+  host = decimal host;
+  kind = codes "Thread";
+  key = thread_text thread;
+  leaf = thread_leaf_text leaf;
+  words = refl;
+  text = from_right (decimal host) (codes "/Thread/") (thread_text thread) (thread_leaf_text leaf);
+  host_whole = decimal_no_slash host 64 h.0 (omega arith);
+  kind_whole = (differs 47 84 (omega arith), (differs 47 104 (omega arith), (differs 47 114 (omega arith), (differs 47 101 (omega arith), (differs 47 97 (omega arith), (differs 47 100 (omega arith), tt))))));
+  key_whole = key_no_slash thread h.1;
+}
+
+behind : (a b : ℕ) (xs ys : List ℕ) → a ∷ xs ≡ b ∷ ys → xs ≡ ys
+behind a b xs ys e = cc
+
+module _ (host kind key leaf : List ℕ) where
+  abbrev parts : List ℕ
+  parts = host ++ 47 ∷ (kind ++ 47 ∷ (key ++ 47 ∷ leaf))
+
+  pub path_found : (text : List ℕ) (p : AttributePath) → text ≡ 104 ∷ parts → ArePathWords (host ∷ kind ∷ key ∷ leaf ∷ []) p → SpellsPath text p
+  path_found text p e h =
+      let w = words_of p h.is_path in
+      let same : host ∷ kind ∷ key ∷ leaf ∷ [] ≡ w.host ∷ w.kind ∷ w.key ∷ w.leaf ∷ [] = h.spelling ∙ w.words in
+      let a : host ≡ w.host = cc in
+      let b : kind ≡ w.kind = cc in
+      let c : key ≡ w.key = cc in
+      let d : leaf ≡ w.leaf = cc in
+      record { spelling = e ∙ ((λ i. 104 ∷ (a i ++ 47 ∷ (b i ++ 47 ∷ (c i ++ 47 ∷ d i)))) ∙ sym w.text); is_path = h.is_path }
+
+  pub path_words_are : (text : List ℕ) (p : AttributePath) → text ≡ 104 ∷ parts → NoSlash host → NoSlash kind → NoSlash key → SpellsPath text p → ArePathWords (host ∷ kind ∷ key ∷ leaf ∷ []) p
+  path_words_are text p e hs ks ys h =
+      let w = words_of p h.is_path in
+      let one = cut_same host w.host _ _ hs w.host_whole (behind 104 104 _ _ (sym e ∙ (h.spelling ∙ w.text))) in
+      let two = cut_same kind w.kind _ _ ks w.kind_whole one.1 in
+      let three = cut_same key w.key _ _ ys w.key_whole two.1 in
+      record { spelling = (λ i. one.0 i ∷ two.0 i ∷ three.0 i ∷ three.1 i ∷ []) ∙ sym w.words; is_path = h.is_path }
+
+  pub none_spelled : (o : Option AttributePath) (text : List ℕ) → text ≡ 104 ∷ parts → NoSlash host → NoSlash kind → NoSlash key
+      → IfNone o ((p : AttributePath) → ¬ (ArePathWords (host ∷ kind ∷ key ∷ leaf ∷ []) p)) → IfNone o ((p : AttributePath) → ¬ (SpellsPath text p))
+  none_spelled None text e hs ks ys none = λ p h. none p (path_words_are text p e hs ks ys h)
+  none_spelled (Some q) text e hs ks ys none = tt
+
+-- a text by its first bytes
+pub first_is : (text : List ℕ) (b : ℕ) → 1 ≤ length text → get_or text 0 0 ≡ b → text ≡ b ∷ take (length text - 1) (drop 1 text)
+first_is [] b h e = absurd (omega arith)
+first_is (x ∷ xs) b h e = ap₂ (λ y ys. y ∷ ys) e (sym (take_all (length (x ∷ xs) - 1) xs (omega arith)))
+
+pub first_two_are : (text : List ℕ) (a b : ℕ) → 2 ≤ length text → get_or text 0 0 ≡ a → get_or text 1 0 ≡ b → text ≡ a ∷ b ∷ take (length text - 2) (drop 2 text)
+first_two_are [] a b h e f = absurd (omega arith)
+first_two_are (x ∷ []) a b h e f = absurd (omega arith)
+first_two_are (x ∷ y ∷ xs) a b h e f = (let same = sym (take_all (length (x ∷ y ∷ xs) - 2) xs (omega arith)) in λ i. e i ∷ f i ∷ same i)
+
+-- where a second or a third slash is missing
+pub no_second : (text host rest : List ℕ) (p : AttributePath) → text ≡ 104 ∷ (host ++ 47 ∷ rest) → NoSlash host → NoSlash rest → ¬ (SpellsPath text p)
+no_second text host rest p e hs rs h =
+    let w = words_of p h.is_path in
+    let one = cut_same host w.host _ _ hs w.host_whole (behind 104 104 _ _ (sym e ∙ (h.spelling ∙ w.text))) in
+    has_slash w.kind _ (subst NoSlash one.1 rs)
+
+pub no_third : (text host kind rest : List ℕ) (p : AttributePath) → text ≡ 104 ∷ (host ++ 47 ∷ (kind ++ 47 ∷ rest)) → NoSlash host → NoSlash kind → NoSlash rest → ¬ (SpellsPath text p)
+no_third text host kind rest p e hs ks rs h =
+    let w = words_of p h.is_path in
+    let one = cut_same host w.host _ _ hs w.host_whole (behind 104 104 _ _ (sym e ∙ (h.spelling ∙ w.text))) in
+    let two = cut_same kind w.kind _ _ ks w.kind_whole one.1 in
+    has_slash w.key _ (subst NoSlash two.1 rs)
+
+-- digits hold no underscore
+plain_key : (tid : ℕ) (rest : List ℕ) → tid < 2 ^ 31 → 48 ∷ 95 ∷ rest ≢ decimal tid
+plain_key tid rest h e =
+    let d : AllDigits 10 (48 ∷ 95 ∷ rest) = subst (AllDigits 10) (sym e) (decimal_is_IsNumeral_wide tid (wide tid (below_wide tid (2 ^ 31) h (omega arith)))).0.1 in
+    omega (arith, (digit_from_value 95 d.1.0).1)
+
+-- an idle thread's word whose processor is none
+pub no_idle : (word rest : List ℕ) → word ≡ 48 ∷ 95 ∷ rest → ((n : ℕ) → n < 2 ^ 32 → rest ≢ decimal n) → (k : ThreadKey) → IsThreadKey k → word ≢ thread_text k
+no_idle word rest e none (Idle cpu) h is = none cpu h (behind 95 95 _ _ (behind 48 48 _ _ (sym e ∙ is)))
+no_idle word rest e none (Tid tid) h is = plain_key tid rest h.1 (sym e ∙ is)
+
+-- a word of tid 0, which is no thread
+pub no_tid : (word : List ℕ) → word ≡ decimal 0 → (k : ThreadKey) → IsThreadKey k → word ≢ thread_text k
+no_tid word e (Idle cpu) h is = plain_key 0 (decimal cpu) (omega arith) (sym is ∙ e)
+no_tid word e (Tid tid) h is =
+    let same : tid ≡ 0 = same_number tid 0 (below_wide tid (2 ^ 31) h.1 (omega arith)) (below_wide 0 1 (omega arith) (omega arith)) (sym is ∙ e) in
+    omega (arith, same, h.0)
