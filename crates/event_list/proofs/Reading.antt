@@ -9,7 +9,8 @@ use Rattle.trace_types.proofs.Decimals.{same_number, below_wide}
 use Rattle.event_list.specs.Lines.{words_of, line_text, first_line, IsEvent, IsLine, AreLines, EndsBehind}
 use Rattle.std.proofs.lemmas.Grind.{flat_map-append}
 use Rattle.event_list.specs.Order.{RiseFrom}
-use Rattle.event_list.proofs.Spelling.{NoEnd, are_words, split_joined, joined_no_end, first_line_is, has_end}
+use Rattle.trace_types.proofs.Cutting.{same_front, has_end}
+use Rattle.event_list.proofs.Spelling.{NoEnd, are_words, split_joined, joined_no_end}
 
 -- the line of this event, whose key is at least so much, stands at the front
 pub record Begins (least : ℕ) (rest : List ℕ) (m : Merged) : Type 0 where
@@ -82,14 +83,14 @@ line_and m after = append_assoc (join_with_byte 32 (words_of m)) (10 ∷ []) aft
 first_is : (rest line after : List ℕ) (least : ℕ) (n : Merged) → rest ≡ line ++ 10 ∷ after → NoEnd line → (g : Begins least rest n)
     → (line ≡ join_with_byte 32 (words_of n)) × (after ≡ g.after)
 first_is rest line after least n e ends g =
-    first_line_is line (join_with_byte 32 (words_of n)) after g.after ends (joined_no_end (words_of n) (are_words n g.is_event))
+    same_front 10 line (join_with_byte 32 (words_of n)) after g.after ends (joined_no_end (words_of n) (are_words n g.is_event))
     (sym e ∙ (g.spelling ∙ line_and n g.after))
 
 words_are : (rest line after : List ℕ) (least : ℕ) (n : Merged) → rest ≡ line ++ 10 ∷ after → NoEnd line → Begins least rest n → slice_split (λ b. b == 32) line ≡ words_of n
 words_are rest line after least n e ends g = ap (slice_split (λ b. b == 32)) (first_is rest line after least n e ends g).0 ∙ split_joined _ _ (are_words n g.is_event)
 
 pub no_end : (rest : List ℕ) (least : ℕ) → NoEnd rest → (n : Merged) → ¬ (Begins least rest n)
-no_end rest least ends n g = has_end (join_with_byte 32 (words_of n)) g.after (subst NoEnd (g.spelling ∙ line_and n g.after) ends)
+no_end rest least ends n g = has_end 10 (join_with_byte 32 (words_of n)) g.after (subst NoEnd (g.spelling ∙ line_and n g.after) ends)
 
 pub no_event : (rest line after : List ℕ) (least : ℕ) (words : List (List ℕ)) → rest ≡ line ++ 10 ∷ after → NoEnd line → words ≡ slice_split (λ b. b == 32) line → ((m : Merged) → ¬ (IsLine words m)) → (n : Merged) → ¬ (Begins least rest n)
 no_event rest line after least words e ends w none n g = none n (record { spelling = w ∙ words_are rest line after least n e ends g; is_event = g.is_event })
@@ -157,7 +158,7 @@ more_read whole events least rest line after words m h e ends w is rises = recor
 -- a text with another first line is no event list
 pub other_first : (bytes first text : List ℕ) (b : Bool) → bytes ≡ first ++ 10 ∷ text → NoEnd first → b ≡ not (pointwise eqb first (codes "hosttrace events 1")) → b ≡ true → (other : List ℕ) → bytes ≢ first_line ++ other
 other_first bytes first text b e ends ne is other begun =
-    let same = (first_line_is first (codes "hosttrace events 1") text other ends (search rules) (sym e ∙ begun)).0 in
+    let same = (same_front 10 first (codes "hosttrace events 1") text other ends (search rules) (sym e ∙ begun)).0 in
     differ (pointwise eqb first (codes "hosttrace events 1")) ((bytes_decides first (codes "hosttrace events 1")).1 same) (sym ne ∙ is)
   where
     differ : (b : Bool) → b ≡ true → not b ≡ true → ⊥
@@ -171,4 +172,4 @@ hosts_below (m ∷ ms) h = (h.0.host, hosts_below ms h.1)
 
 -- no line feed at all: no first line
 pub no_first : (bytes : List ℕ) → NoEnd bytes → (other : List ℕ) → bytes ≢ first_line ++ other
-no_first bytes ends other e = has_end (codes "hosttrace events 1") other (subst NoEnd e ends)
+no_first bytes ends other e = has_end 10 (codes "hosttrace events 1") other (subst NoEnd e ends)

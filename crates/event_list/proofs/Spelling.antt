@@ -1,5 +1,5 @@
 -- Lines are cut where they end, and words where they do.
-use Rattle.std.proofs.Common.{◌≡◌, ◌≢◌, ℕ, ℤ, pos, negsuc, suc, ◌+◌, ◌/◌, ◌%◌, ◌<◌, ◌^◌, Bool, true, false, if◌then◌else◌, List, [], ◌∷◌, ◌++◌, refl, sym, ap, ap₂, ◌∙◌, append_assoc, map, Bor, arith, rules, FitsSigned}
+use Rattle.std.proofs.Common.{◌≡◌, ◌≢◌, ℕ, ℤ, pos, negsuc, suc, ◌+◌, ◌/◌, ◌%◌, ◌<◌, ◌^◌, Bool, true, false, if◌then◌else◌, List, [], ◌∷◌, ◌++◌, refl, sym, ap, ◌∙◌, append_assoc, map, Bor, arith, rules, FitsSigned}
 use Rattle.std.specs.Prelude.{flat_map, ◌==◌}
 use Rattle.std.specs.List.{AllByRecursion, slice_split, join_with_byte}
 use Rattle.std.specs.Int.{w32, w64}
@@ -61,11 +61,11 @@ byte_text_word (b ∷ bs) = spelled_all_word (b ∷ bs)
 abbrev AreWords : List (List ℕ) → Type 0
 AreWords = AllByRecursion IsWord
 
-mag_64 : (z : ℤ) → FitsSigned w64 z → mag z < 2 ^ 63
+pub mag_64 : (z : ℤ) → FitsSigned w64 z → mag z < 2 ^ 63
 mag_64 (pos n) h = omega (arith, ints)
 mag_64 (negsuc n) h = omega (arith, ints)
 
-mag_32 : (z : ℤ) → FitsSigned w32 z → mag z < 2 ^ 63
+pub mag_32 : (z : ℤ) → FitsSigned w32 z → mag z < 2 ^ 63
 mag_32 (pos n) h = omega (arith, ints)
 mag_32 (negsuc n) h = omega (arith, ints)
 
@@ -111,17 +111,6 @@ pub joined_no_end : (ws : List (List ℕ)) → AreWords ws → NoEnd (join_with_
 joined_no_end [] h = tt
 joined_no_end (w ∷ []) h = word_no_end w h.0
 joined_no_end (w ∷ v ∷ vs) h = no_end_both w _ (word_no_end w h.0) (λ e. omega (arith, e), joined_no_end (v ∷ vs) h.1)
-
--- a text has one first line
-pub first_line_is : (xs ys a b : List ℕ) → NoEnd xs → NoEnd ys → xs ++ 10 ∷ a ≡ ys ++ 10 ∷ b → (xs ≡ ys) × (a ≡ b)
-first_line_is [] [] a b h g e = (refl, cc)
-first_line_is [] (y ∷ ys) a b h g e = absurd (g.0 (cc))
-first_line_is (x ∷ xs) [] a b h g e = absurd (h.0 (cc))
-first_line_is (x ∷ xs) (y ∷ ys) a b h g e = let more = first_line_is xs ys a b h.1 g.1 (cc) in (ap₂ (λ z zs. z ∷ zs) (cc) more.0, more.1)
-
-pub has_end : (xs a : List ℕ) → NoEnd (xs ++ 10 ∷ a) → ⊥
-has_end [] a h = h.0 refl
-has_end (x ∷ xs) a h = has_end xs a h.1
 
 -- a line's words, cut off one by one
 abbrev pub cut : List ℕ → List (List ℕ)

@@ -90,6 +90,21 @@ fn numbers(rt: HostRuntime) -> Result<(), Fail> {
     )?;
     refused(
         &rt,
+        b"hosttrace events 1\n1 0 0 0 switch 0 a 20 0 7 b 20\n",
+        "list line 2\n",
+    )?;
+    refused(
+        &rt,
+        b"hosttrace events 1\n1 0 0 1 switch 0 a 20 0 2147483648 b 20\n",
+        "list line 2\n",
+    )?;
+    refused(
+        &rt,
+        b"hosttrace events 1\n1 0 0 1 switch 0 a 2147483648 0 7 b 20\n",
+        "list line 2\n",
+    )?;
+    refused(
+        &rt,
         b"hosttrace events 1\n1 0 0 1 switch 0 a 20 -0 7 b 20\n",
         "list line 2\n",
     )?;

@@ -1,5 +1,5 @@
 -- Where the first byte of a kind stands, the text is cut.
-use Rattle.std.proofs.Common.{◌≡◌, ◌≢◌, ℕ, zero, suc, ◌+◌, ◌-◌, ◌<◌, ◌≤◌, Bool, true, false, not, cond, List, [], ◌∷◌, ◌++◌, length, take, drop, Some, None, refl, sym, ap, ◌∙◌, subst, arith, nat_lt}
+use Rattle.std.proofs.Common.{◌≡◌, ◌≢◌, ℕ, zero, suc, ◌+◌, ◌-◌, ◌<◌, ◌≤◌, Bool, true, false, not, cond, List, [], ◌∷◌, ◌++◌, length, take, drop, Some, None, refl, sym, ap, ap₂, ◌∙◌, subst, arith, nat_lt}
 use Rattle.std.specs.Prelude.{◌==◌}
 use Rattle.std.specs.List.{AllByRecursion, position, position_or_len}
 use Rattle.std.proofs.lemmas.Bool.{ltb-true, ltb-false}
@@ -51,3 +51,14 @@ module _ (end : ℕ) where
       by : (b : Bool) → nat_lt (position_or_len is_end xs) (length xs) ≡ b → None ≡ cond b (Some (position_or_len is_end xs)) None → AllByRecursion (λ b. b ≢ end) xs
       by true is e = absurd (cc)
       by false is e = none xs (ltb-false _ _ is)
+
+  -- a text has one front before the first of these bytes
+  pub same_front : (xs ys a b : List ℕ) → AllByRecursion (λ b. b ≢ end) xs → AllByRecursion (λ b. b ≢ end) ys → xs ++ end ∷ a ≡ ys ++ end ∷ b → (xs ≡ ys) × (a ≡ b)
+  same_front [] [] a b h g e = (refl, cc)
+  same_front [] (y ∷ ys) a b h g e = absurd (g.0 (cc))
+  same_front (x ∷ xs) [] a b h g e = absurd (h.0 (cc))
+  same_front (x ∷ xs) (y ∷ ys) a b h g e = let more = same_front xs ys a b h.1 g.1 (cc) in (ap₂ (λ z zs. z ∷ zs) (cc) more.0, more.1)
+
+  pub has_end : (xs a : List ℕ) → AllByRecursion (λ b. b ≢ end) (xs ++ end ∷ a) → ⊥
+  has_end [] a h = h.0 refl
+  has_end (x ∷ xs) a h = has_end xs a h.1

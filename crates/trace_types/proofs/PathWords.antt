@@ -6,6 +6,7 @@ use Rattle.std.specs.Fmt.{decimal}
 use Rattle.std.specs.Str.Parse.{AllDigits}
 use Rattle.std.proofs.lemmas.Fmt.{decimal_is_IsNumeral_wide}
 use Rattle.std.proofs.lemmas.Str.Parse.{digit_from_value}
+use Rattle.trace_types.proofs.Cutting.{same_front, has_end}
 use Rattle.trace_types.proofs.Decimals.{wide, below_wide, same_number}
 use Rattle.trace_types.specs.declared.path.Path.{Path as AttributePath}
 use Rattle.trace_types.specs.declared.path.Path.TheVariants.{Cpu, Thread}
@@ -26,17 +27,6 @@ decimal_no_slash n limit h g = digits_no_slash (decimal n) (decimal_is_IsNumeral
 key_no_slash : (k : ThreadKey) → IsThreadKey k → NoSlash (thread_text k)
 key_no_slash (Idle cpu) h = ((λ e. omega (arith, e)), ((λ e. omega (arith, e)), decimal_no_slash cpu (2 ^ 32) h (omega arith)))
 key_no_slash (Tid tid) h = decimal_no_slash tid (2 ^ 31) h.1 (omega arith)
-
--- a text is cut at its first slash
-cut_same : (xs ys a b : List ℕ) → NoSlash xs → NoSlash ys → xs ++ 47 ∷ a ≡ ys ++ 47 ∷ b → (xs ≡ ys) × (a ≡ b)
-cut_same [] [] a b h g e = (refl, cc)
-cut_same [] (y ∷ ys) a b h g e = absurd (g.0 (cc))
-cut_same (x ∷ xs) [] a b h g e = absurd (h.0 (cc))
-cut_same (x ∷ xs) (y ∷ ys) a b h g e = let more = cut_same xs ys a b h.1 g.1 (cc) in (ap₂ (λ z zs. z ∷ zs) (cc) more.0, more.1)
-
-has_slash : (xs a : List ℕ) → NoSlash (xs ++ 47 ∷ a) → ⊥
-has_slash [] a h = h.0 refl
-has_slash (x ∷ xs) a h = has_slash xs a h.1
 
 -- the four words of a path, and that three of them have no slash
 record Words (p : AttributePath) : Type 0 where
@@ -101,9 +91,9 @@ module _ (host kind key leaf : List ℕ) where
   pub path_words_are : (text : List ℕ) (p : AttributePath) → text ≡ 104 ∷ parts → NoSlash host → NoSlash kind → NoSlash key → SpellsPath text p → ArePathWords (host ∷ kind ∷ key ∷ leaf ∷ []) p
   path_words_are text p e hs ks ys h =
       let w = words_of p h.is_path in
-      let one = cut_same host w.host _ _ hs w.host_whole (behind 104 104 _ _ (sym e ∙ (h.spelling ∙ w.text))) in
-      let two = cut_same kind w.kind _ _ ks w.kind_whole one.1 in
-      let three = cut_same key w.key _ _ ys w.key_whole two.1 in
+      let one = same_front 47 host w.host _ _ hs w.host_whole (behind 104 104 _ _ (sym e ∙ (h.spelling ∙ w.text))) in
+      let two = same_front 47 kind w.kind _ _ ks w.kind_whole one.1 in
+      let three = same_front 47 key w.key _ _ ys w.key_whole two.1 in
       record { spelling = (λ i. one.0 i ∷ two.0 i ∷ three.0 i ∷ three.1 i ∷ []) ∙ sym w.words; is_path = h.is_path }
 
   pub none_spelled : (o : Option AttributePath) (text : List ℕ) → text ≡ 104 ∷ parts → NoSlash host → NoSlash kind → NoSlash key
@@ -125,15 +115,15 @@ first_two_are (x ∷ y ∷ xs) a b h e f = (let same = sym (take_all (length (x 
 pub no_second : (text host rest : List ℕ) (p : AttributePath) → text ≡ 104 ∷ (host ++ 47 ∷ rest) → NoSlash host → NoSlash rest → ¬ (SpellsPath text p)
 no_second text host rest p e hs rs h =
     let w = words_of p h.is_path in
-    let one = cut_same host w.host _ _ hs w.host_whole (behind 104 104 _ _ (sym e ∙ (h.spelling ∙ w.text))) in
-    has_slash w.kind _ (subst NoSlash one.1 rs)
+    let one = same_front 47 host w.host _ _ hs w.host_whole (behind 104 104 _ _ (sym e ∙ (h.spelling ∙ w.text))) in
+    has_end 47 w.kind _ (subst NoSlash one.1 rs)
 
 pub no_third : (text host kind rest : List ℕ) (p : AttributePath) → text ≡ 104 ∷ (host ++ 47 ∷ (kind ++ 47 ∷ rest)) → NoSlash host → NoSlash kind → NoSlash rest → ¬ (SpellsPath text p)
 no_third text host kind rest p e hs ks rs h =
     let w = words_of p h.is_path in
-    let one = cut_same host w.host _ _ hs w.host_whole (behind 104 104 _ _ (sym e ∙ (h.spelling ∙ w.text))) in
-    let two = cut_same kind w.kind _ _ ks w.kind_whole one.1 in
-    has_slash w.key _ (subst NoSlash two.1 rs)
+    let one = same_front 47 host w.host _ _ hs w.host_whole (behind 104 104 _ _ (sym e ∙ (h.spelling ∙ w.text))) in
+    let two = same_front 47 kind w.kind _ _ ks w.kind_whole one.1 in
+    has_end 47 w.key _ (subst NoSlash two.1 rs)
 
 -- digits hold no underscore
 plain_key : (tid : ℕ) (rest : List ℕ) → tid < 2 ^ 31 → 48 ∷ 95 ∷ rest ≢ decimal tid
