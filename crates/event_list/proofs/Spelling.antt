@@ -3,16 +3,14 @@ use Rattle.std.proofs.Common.{◌≡◌, ◌≢◌, ℕ, ℤ, pos, negsuc, suc, 
 use Rattle.std.specs.Prelude.{flat_map, ◌==◌}
 use Rattle.std.specs.List.{AllByRecursion, slice_split, join_with_byte}
 use Rattle.std.specs.Int.{w32, w64}
-use Rattle.std.specs.Str.Parse.{AllDigits}
 use Rattle.std.specs.Fmt.{decimal, signed_decimal}
 use lib.Signed.{mag}
 use Rattle.std.proofs.lemmas.Int.{ints}
-use Rattle.std.proofs.lemmas.Fmt.{decimal_is_IsNumeral_wide}
-use Rattle.std.proofs.lemmas.Str.Parse.{digit_from_value}
 use Rattle.std.proofs.lemmas.Bool.{ne_eqb}
 use Rattle.std.proofs.lemmas.List.{map-append}
 use Rattle.trace_types.specs.ByteTexts.{byte_text, spelled, is_plain, hex_digit}
-use Rattle.trace_types.proofs.Decimals.{wide, below_wide}
+use Rattle.trace_types.proofs.Decimals.{below_wide, decimal_high}
+use Rattle.trace_types.proofs.Everywhere.{all_weaker, all_both}
 use Rattle.trace_types.specs.declared.event.Merged.{Merged}
 use Rattle.trace_types.specs.declared.event.KernelEvent.{KernelEvent}
 use Rattle.trace_types.specs.declared.event.KernelEvent.TheVariants.{Switch}
@@ -22,16 +20,8 @@ use Rattle.event_list.specs.Lines.{kind_words, words_of, IsKind, IsEvent}
 abbrev pub IsWord : List ℕ → Type 0
 IsWord = AllByRecursion (λ b. 32 < b)
 
-both : (xs ys : List ℕ) → IsWord xs → IsWord ys → IsWord (xs ++ ys)
-both [] ys h g = g
-both (x ∷ xs) ys h g = (h.0, both xs ys h.1 g)
-
-digits_word : (ds : List ℕ) → AllDigits 10 ds → IsWord ds
-digits_word [] h = tt
-digits_word (d ∷ ds) h = (omega (arith, (digit_from_value d h.0).0), digits_word ds h.1)
-
 decimal_word : (n : ℕ) → n < 2 ^ 128 → IsWord (decimal n)
-decimal_word n h = digits_word (decimal n) (decimal_is_IsNumeral_wide n (wide n h)).0.1
+decimal_word n h = all_weaker (λ b. 47 < b) (λ b. 32 < b) (decimal n) (λ b k. omega (arith, k)) (decimal_high n h)
 
 signed_word : (z : ℤ) → mag z < 2 ^ 63 → IsWord (signed_decimal z)
 signed_word (pos n) h = decimal_word n (below_wide n (2 ^ 63) h (omega arith))
@@ -52,7 +42,7 @@ spelled_word b = by (is_plain b) refl
 
 spelled_all_word : (bs : List ℕ) → IsWord (flat_map spelled bs)
 spelled_all_word [] = tt
-spelled_all_word (b ∷ bs) = both (spelled b) _ (spelled_word b) (spelled_all_word bs)
+spelled_all_word (b ∷ bs) = all_both (λ b. 32 < b) (spelled b) _ (spelled_word b) (spelled_all_word bs)
 
 byte_text_word : (bs : List ℕ) → IsWord (byte_text bs)
 byte_text_word [] = (omega arith, tt)
@@ -100,17 +90,12 @@ abbrev pub NoEnd : List ℕ → Type 0
 NoEnd = AllByRecursion (λ b. b ≢ 10)
 
 word_no_end : (w : List ℕ) → IsWord w → NoEnd w
-word_no_end [] h = tt
-word_no_end (b ∷ bs) h = (λ e. omega (arith, h.0, e), word_no_end bs h.1)
-
-no_end_both : (xs ys : List ℕ) → NoEnd xs → NoEnd ys → NoEnd (xs ++ ys)
-no_end_both [] ys h g = g
-no_end_both (x ∷ xs) ys h g = (h.0, no_end_both xs ys h.1 g)
+word_no_end w h = all_weaker (λ b. 32 < b) (λ b. b ≢ 10) w (λ b k e. omega (arith, k, e)) h
 
 pub joined_no_end : (ws : List (List ℕ)) → AreWords ws → NoEnd (join_with_byte 32 ws)
 joined_no_end [] h = tt
 joined_no_end (w ∷ []) h = word_no_end w h.0
-joined_no_end (w ∷ v ∷ vs) h = no_end_both w _ (word_no_end w h.0) (λ e. omega (arith, e), joined_no_end (v ∷ vs) h.1)
+joined_no_end (w ∷ v ∷ vs) h = all_both (λ b. b ≢ 10) w _ (word_no_end w h.0) (λ e. omega (arith, e), joined_no_end (v ∷ vs) h.1)
 
 -- a line's words, cut off one by one
 abbrev pub cut : List ℕ → List (List ℕ)

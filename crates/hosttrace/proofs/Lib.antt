@@ -3,6 +3,8 @@ pub mod WordPlaces
 pub mod RowValues
 pub mod Replayed
 pub mod Listed
+pub mod QuestionLines
+pub mod AnswerLines
 pub mod Refused
 pub mod Written
 pub mod Complete

@@ -23,11 +23,13 @@ use Rattle.kernel_provider.specs.declared.rules.Assignment.{Assignment}
 use Rattle.kernel_provider.specs.declared.step.Step.{Step}
 use Rattle.kernel_provider.specs.Rules.{assignments}
 use Rattle.kernel_provider.specs.Replay.{state_at}
-use Rattle.kernel_provider.specs.Steps.{Table, value_in, is_held, number_of, is_idle, assigned, all_assigned, assignment_steps, all_assignment_steps, steps_from, steps_of, insert_entry}
+use Rattle.kernel_provider.proofs.Keys.{held_keys, new_keys}
+use Rattle.kernel_provider.specs.Steps.{Table, value_in, is_held, number_of, is_idle, assigned, all_assigned, assignment_steps, all_assignment_steps, steps_from, steps_of, with_value}
 use Rattle.hosttrace.specs.declared.rows.Row.{Row}
 use Rattle.hosttrace.specs.Rows.{set_value, rows_after}
 use Rattle.hosttrace.specs.StateText.{IsListing, IsBefore, IsNotAfter, has_value}
-use Rattle.hosttrace.proofs.Replayed.{row_of, row_value, advanced, apart, state_values}
+use Rattle.kernel_provider.proofs.Replayed.{apart}
+use Rattle.hosttrace.proofs.Replayed.{row_of, row_value, advanced, state_values}
 
 abbrev pub paths : List Row → List AttributePath
 paths rows = map (λ r. r.path) rows
@@ -41,24 +43,6 @@ set_value_paths (r ∷ rs) (suc n) v = ap (λ l. r.path ∷ l) (set_value_paths 
 changed_paths : (b : Bool) (rows : List Row) (n : ℕ) (v : Value) → paths (if b then set_value rows n v else rows) ≡ paths rows
 changed_paths true rows n v = set_value_paths rows n v
 changed_paths false rows n v = refl
-
-held_keys : (table : Table) (p : AttributePath) (v : Value) → is_held table p ≡ true → keys_of (insert_entry same_path table p v) ≡ keys_of table
-held_keys [] p v h = absurd (cc)
-held_keys (e ∷ es) p v h = by (same_path p e.0) h (held_keys es p v)
-  where
-    by : (b : Bool) → is_some (cond b (Some e.1) (lookup (same_path p) es)) ≡ true → (is_held es p ≡ true → keys_of (insert_entry same_path es p v) ≡ keys_of es)
-        → keys_of (if b then (e.0, v) ∷ es else e ∷ insert_entry same_path es p v) ≡ e.0 ∷ keys_of es
-    by true h rest = refl
-    by false h rest = ap (λ l. e.0 ∷ l) (rest h)
-
-new_keys : (table : Table) (p : AttributePath) (v : Value) → is_held table p ≡ false → keys_of (insert_entry same_path table p v) ≡ keys_of table ++ p ∷ []
-new_keys [] p v h = refl
-new_keys (e ∷ es) p v h = by (same_path p e.0) h (new_keys es p v)
-  where
-    by : (b : Bool) → is_some (cond b (Some e.1) (lookup (same_path p) es)) ≡ false → (is_held es p ≡ false → keys_of (insert_entry same_path es p v) ≡ keys_of es ++ p ∷ [])
-        → keys_of (if b then (e.0, v) ∷ es else e ∷ insert_entry same_path es p v) ≡ e.0 ∷ (keys_of es ++ p ∷ [])
-    by true h rest = absurd (cc)
-    by false h rest = ap (λ l. e.0 ∷ l) (rest h)
 
 not_among : (table : Table) (p : AttributePath) → is_held table p ≡ false → AllByRecursion (λ k. same_path k p ≡ false) (keys_of table)
 not_among [] p h = tt
@@ -82,7 +66,7 @@ distinct_push (x ∷ xs) y h g = IsDistinct-cons same_path x (xs ++ y ∷ []) (o
 distinct_assigned : (table : Table) (a : Assignment) → IsDistinct same_path (keys_of table) → IsDistinct same_path (keys_of (assigned table a))
 distinct_assigned table a h = by (is_idle table a) (is_held table a.path) refl
   where
-    by : (i g : Bool) → is_held table a.path ≡ g → IsDistinct same_path (keys_of (if i then table else insert_entry same_path table a.path a.value))
+    by : (i g : Bool) → is_held table a.path ≡ g → IsDistinct same_path (keys_of (if i then table else with_value table a.path a.value))
     by true g e = h
     by false true e = subst (IsDistinct same_path) (sym (held_keys table a.path a.value e)) h
     by false false e = subst (IsDistinct same_path) (sym (new_keys table a.path a.value e)) (distinct_push (keys_of table) a.path h (not_among table a.path e))

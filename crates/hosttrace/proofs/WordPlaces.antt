@@ -1,11 +1,12 @@
 -- Words by place.
-use Rattle.std.proofs.Common.{◌≡◌, ℕ, zero, suc, ◌<◌, ◌≤◌, ◌^◌, List, [], ◌∷◌, length, map, get_or, refl, sym, ap, ◌∙◌, arith, Bool, true, false, not, eqb}
+use Rattle.std.proofs.Common.{◌≡◌, ℕ, zero, suc, ◌<◌, ◌≤◌, ◌^◌, List, [], ◌∷◌, length, map, get_or, codes, refl, sym, ap, ◌∙◌, arith, Bool, true, false, not, eqb}
 use Rattle.std.specs.Cmp.Lexicographic.{pointwise, bytes_decides}
 use Rattle.std.specs.Fmt.{decimal}
+use Rattle.trace_types.proofs.Decimals.{same_number, below_wide}
 use Rattle.hosttrace.specs.Words.{IsCommand}
 use Rattle.hosttrace.specs.declared.command.Command.{Command}
 use Rattle.hosttrace.specs.declared.command.Command.TheVariants.{Plain}
-use Rattle.hosttrace.specs.declared.command.PlainCommand.TheVariants.{State}
+use Rattle.hosttrace.specs.declared.command.PlainCommand.TheVariants.{State, Ask}
 use Rattle.hosttrace.specs.declared.command.Input.TheVariants as input
 
 module _ {A : Type 0} (text : A → List ℕ) where
@@ -24,11 +25,6 @@ module _ {A : Type 0} (text : A → List ℕ) where
   five (v ∷ w ∷ x ∷ y ∷ []) a b c d e low high p q r s t = absurd (omega arith)
   five (u ∷ v ∷ w ∷ x ∷ y ∷ z ∷ ws) a b c d e low high p q r s t = absurd (omega arith)
 
-  -- the third word is no instant
-  pub no_time : (ws : List A) (x : A) (t : List ℕ) → 5 ≤ length ws → x ≡ get_or ws 2 x → t ≡ text x → ((n : ℕ) → n < 2 ^ 62 → t ≡ decimal n → ⊥) → (c : Command) → IsCommand (map text ws) c → ⊥
-  no_time ws x t low is same none (Plain (State (input.List file) at)) h =
-      none at h.at_below (same ∙ (sym (item_is ws 2 x is (omega arith)) ∙ ap (λ l. get_or l 2 []) h.words_are))
-
 -- a comparison that finds no difference
 pub same_text : (b : Bool) (xs ys zs : List ℕ) → b ≡ not (pointwise eqb ys zs) → b ≡ false → ys ≡ xs → xs ≡ zs
 same_text b xs ys zs e f is = sym is ∙ (bytes_decides ys zs).0 (by (pointwise eqb ys zs) (sym e ∙ f))
@@ -36,3 +32,27 @@ same_text b xs ys zs e f is = sym is ∙ (bytes_decides ys zs).0 (by (pointwise 
     by : (b : Bool) → not b ≡ false → b ≡ true
     by true h = refl
     by false h = absurd (cc)
+
+-- the two commands begin differently
+state_is_not_ask : (xs ys : List (List ℕ)) → codes "state" ∷ xs ≡ codes "ask" ∷ ys → ⊥
+state_is_not_ask xs ys e = absurd (omega (arith, ap (λ l. get_or (get_or l 0 []) 0 0) e))
+
+-- the third word is no instant
+pub no_time : (ws rest : List (List ℕ)) (t : List ℕ) → ws ≡ codes "state" ∷ codes "--at" ∷ t ∷ rest → ((n : ℕ) → n < 2 ^ 62 → t ≡ decimal n → ⊥) → (c : Command) → IsCommand ws c → ⊥
+no_time ws rest t same none (Plain (State (input.List file) at)) h = none at h.at_below (ap (λ l. get_or l 2 []) (sym same ∙ h.words_are))
+no_time ws rest t same none (Plain (Ask (input.List file) questions)) h = state_is_not_ask _ _ (sym same ∙ h.words_are)
+
+-- the words of a state command, and of a command with questions, name one file and one instant or question file
+pub same_command : (ws : List (List ℕ)) (c d : Command) → IsCommand ws c → IsCommand ws d → c ≡ d
+same_command ws (Plain (State (input.List file) at)) (Plain (State (input.List other) then)) h g =
+    let e = sym h.words_are ∙ g.words_are in
+    let file_is : file ≡ other = ap (λ l. get_or l 4 []) e in
+    let at_is : at ≡ then = same_number at then (below_wide at (2 ^ 62) h.at_below (omega arith)) (below_wide then (2 ^ 62) g.at_below (omega arith)) (ap (λ l. get_or l 2 []) e) in
+    λ i. Plain (State (input.List (file_is i)) (at_is i))
+same_command ws (Plain (Ask (input.List file) questions)) (Plain (Ask (input.List other) asked)) h g =
+    let e = sym h.words_are ∙ g.words_are in
+    let file_is : file ≡ other = ap (λ l. get_or l 4 []) e in
+    let questions_are : questions ≡ asked = ap (λ l. get_or l 2 []) e in
+    λ i. Plain (Ask (input.List (file_is i)) (questions_are i))
+same_command ws (Plain (State (input.List file) at)) (Plain (Ask (input.List other) asked)) h g = absurd (state_is_not_ask _ _ (sym h.words_are ∙ g.words_are))
+same_command ws (Plain (Ask (input.List file) questions)) (Plain (State (input.List other) then)) h g = absurd (state_is_not_ask _ _ (sym g.words_are ∙ h.words_are))

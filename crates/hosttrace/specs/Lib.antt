@@ -2,6 +2,11 @@ pub mod Words
 pub mod Statuses
 pub mod Reading
 pub mod Rows
+pub mod Values
 pub mod StateText
+pub mod Questions
+pub mod AnswersText
+pub mod Inputs
+pub mod Means
 pub mod Outcome
 pub mod Writing

@@ -4,10 +4,15 @@ use Rattle.std.specs.Fmt.{decimal}
 use Rattle.std.specs.Io.KnownBytes.{Appends}
 use Rattle.ht_outside.specs.Faults.{HasRisen}
 use Rattle.hosttrace.specs.Writing.{AppendsFront}
+use Rattle.event_list.specs.declared.list.ListError.{ListError}
+use Rattle.event_list.specs.declared.list.ListError.TheVariants as list
+use Rattle.hosttrace.specs.declared.questions.QuestionsError.{QuestionsError}
+use Rattle.hosttrace.specs.declared.questions.QuestionsError.TheVariants as questions
 use Rattle.hosttrace.specs.declared.status.Refusal.{Refusal}
 use Rattle.hosttrace.specs.declared.status.Refusal.TheVariants.{BadList, TooLarge}
-use Rattle.hosttrace.specs.declared.status.ListFile.TheVariants.{Events}
+use Rattle.hosttrace.specs.declared.status.ListFile.TheVariants.{Events, Questions}
 use Rattle.hosttrace.specs.declared.status.Limit.TheVariants.{File}
+use Rattle.hosttrace.specs.declared.status.Limit.TheVariants as limit
 use Rattle.hosttrace.specs.declared.status.Status.{Status}
 use Rattle.hosttrace.specs.declared.status.Status.TheVariants.{Done, Usage, Refused, ReadFault, WriteFault, NoMemory}
 
@@ -21,7 +26,9 @@ code_of NoMemory = 5
 
 abbrev pub refusal_text : Refusal → List ℕ
 refusal_text (BadList Events line) = codes "list line " ++ decimal line
+refusal_text (BadList Questions line) = codes "questions line " ++ decimal line
 refusal_text (TooLarge File) = codes "too large: file"
+refusal_text (TooLarge limit.Questions) = codes "too large: questions"
 
 -- the line that tells a status; Done has none
 abbrev pub status_line : Status → List ℕ
@@ -40,3 +47,12 @@ IsTold (Refused refusal) old new faults faults_after = Appends old new (status_l
 IsTold ReadFault old new faults faults_after = Appends old new (status_line ReadFault)
 IsTold WriteFault old new faults faults_after = Appends old new (status_line WriteFault) ⊎ (HasRisen faults faults_after × (status : Status) × AppendsFront old new (status_line status))
 IsTold NoMemory old new faults faults_after = (status : Status) × AppendsFront old new (status_line status)
+
+-- the statuses that tell why a file is no list
+abbrev pub list_status : ListError → Status
+list_status (list.BadLine line) = Refused (BadList Events line)
+list_status list.OutOfMemory = NoMemory
+
+abbrev pub questions_status : QuestionsError → Status
+questions_status (questions.BadLine line) = Refused (BadList Questions line)
+questions_status questions.OutOfMemory = NoMemory

@@ -13,6 +13,8 @@ pub enum Input {
 pub enum PlainCommand {
     /// The state at an instant, in ns.
     State { input: Input, at: u64 },
+    /// The answers to the questions of a file.
+    Ask { input: Input, questions: Text },
 }
 
 /// A command.

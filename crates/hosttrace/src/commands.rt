@@ -1,19 +1,24 @@
 //! The top calls, and what each command does.
-ghost use Rattle.std.specs.Prelude.{◌≡◌, [], map, string_bytes};
-ghost use Rattle.hosttrace.specs.Outcome.{IsOutcome, Leaves, PlainLeaves, PlainMeans, StateLeaves, StateMeans};
+ghost use Rattle.std.specs.Prelude.{◌≡◌, [], IfOk, IfErr, IfSome, map, string_bytes};
+ghost use Rattle.ht_outside.specs.Files.{bytes_of};
+ghost use Rattle.hosttrace.specs.Inputs.{FailsBy};
+ghost use Rattle.hosttrace.specs.Means.{IsOutput, IsStateOutput, IsAskOutput, Refuses};
+ghost use Rattle.hosttrace.specs.Outcome.{IsOutcome, Leaves, PlainLeaves, PlainMeans};
 ghost use Rattle.hosttrace.specs.Statuses.{IsTold};
+ghost use Rattle.hosttrace.specs.declared.command.PlainCommand.TheVariants.{State, Ask};
+ghost use Rattle.hosttrace.specs.declared.command.Input.TheVariants as input;
 
+use crate::answers_text::answers_text;
 use crate::command::{Command, Input, PlainCommand};
-use crate::reading::{ReadError, read_file};
+use crate::inputs::{read_asked, read_events};
 use crate::state_text::state_text;
-use crate::status::{Limit, ListFile, Refusal, Status};
+use crate::status::Status;
 use crate::status_line::write_status;
 use crate::words::{WordsError, parse_words};
 use crate::writing::write_text;
-use event_list::{ListError, read_list};
 use ht_outside::{Gate, Sink, SinkError, Store};
 use std::alloc::Global;
-use trace_types::Text;
+use trace_types::{OutOfMemory, Text};
 
 /// Runs the command of the words after the program's name: its text goes to `out`, and for every
 /// status but `Done` a line goes to `err`.
@@ -72,21 +77,18 @@ pub fn run_plain<R, S: Store, K: Sink, E: Sink>(
     ensures told { IsTold result (E.contents err.old) (E.contents err.new) (E.faults err.old) (E.faults err.new) }
     ensures keeps { S.holds store.new ≡ S.holds store.old }
 {
-    let PlainCommand::State { input, at } = command;
-    let Input::List(file) = input;
-    let status = state(alloc, file, *at, store, out);
+    let status = perform(alloc, command, store, out);
     write_status(alloc, status, err)
 }
 
-// The state at an instant, of an event list.
-fn state<S: Store, K: Sink>(
+// Writes the text of a command.
+fn perform<S: Store, K: Sink>(
     alloc: Global,
-    file: &Text,
-    at: u64,
+    command: &PlainCommand,
     store: &mut S,
     out: &mut K,
 ) -> Status
-    ensures means { StateMeans file.now at (record {
+    ensures means { PlainMeans command.now (record {
       files = S.holds store.old;
       read_faults = S.faults store.old;
       read_faults_after = S.faults store.new;
@@ -97,29 +99,75 @@ fn state<S: Store, K: Sink>(
       err_faults = 0;
       err_faults_after = 0;
     }) result }
-    ensures leaves { StateLeaves file.now at (S.holds store.old) (K.contents out.old) (K.contents out.new) result }
+    ensures leaves { PlainLeaves command.now (S.holds store.old) (K.contents out.old) (K.contents out.new) result }
     ensures keeps { S.holds store.new ≡ S.holds store.old }
 {
-    let bytes = match read_file(alloc, store, b"", file.as_bytes()) {
-        Ok(bytes) => bytes,
-        Err(ReadError::Fault) => return Status::ReadFault,
-        Err(ReadError::TooLarge) => return Status::Refused(Refusal::TooLarge { what: Limit::File }),
-        Err(ReadError::OutOfMemory) => return Status::NoMemory,
-    };
-    let trace = match read_list(alloc, &bytes) {
-        Ok(trace) => trace,
-        Err(ListError::BadLine { line }) => {
-            let file = ListFile::Events;
-            return Status::Refused(Refusal::BadList { file, line });
-        }
-        Err(ListError::OutOfMemory) => return Status::NoMemory,
-    };
-    let Ok(text) = state_text(alloc, &trace.events, at) else {
-        return Status::NoMemory;
+    let text = match text_of(alloc, command, store) {
+        Ok(text) => text,
+        Err(status) => return status,
     };
     match write_text(out, &text) {
         Ok(()) => Status::Done,
         Err(SinkError::Failed) => Status::WriteFault,
         Err(SinkError::OutOfMemory) => Status::NoMemory,
+    }
+}
+
+// The text of a command, or the status that tells why it has none.
+fn text_of<S: Store>(
+    alloc: Global,
+    command: &PlainCommand,
+    store: &mut S,
+) -> Result<Vec<u8>, Status>
+    ensures text { IfOk result (λ text. IfSome (S.holds store.old) (λ files. IsOutput command.now files text.items)) }
+    ensures fails { IfErr result (λ status. FailsBy (Refuses command.now) (S.holds store.old) (S.faults store.old) (S.faults store.new) status) }
+    ensures keeps { S.holds store.new ≡ S.holds store.old }
+{
+    match command {
+        PlainCommand::State { input, at } => {
+            let Input::List(file) = input;
+            text_of_state(alloc, file, *at, store)
+        }
+        PlainCommand::Ask { input, questions } => {
+            let Input::List(file) = input;
+            text_of_ask(alloc, file, questions, store)
+        }
+    }
+}
+
+// The state at an instant, of an event list.
+fn text_of_state<S: Store>(
+    alloc: Global,
+    file: &Text,
+    at: u64,
+    store: &mut S,
+) -> Result<Vec<u8>, Status>
+    ensures text { IfOk result (λ text. IfSome (S.holds store.old) (λ files. IsStateOutput (bytes_of files [] file.now) at text.items)) }
+    ensures fails { IfErr result (λ status. FailsBy (Refuses (State (input.List file.now) at)) (S.holds store.old) (S.faults store.old) (S.faults store.new) status) }
+    ensures keeps { S.holds store.new ≡ S.holds store.old }
+{
+    let trace = read_events(alloc, file, store)?;
+    match state_text(alloc, &trace.events, at) {
+        Ok(text) => Ok(text),
+        Err(OutOfMemory) => Err(Status::NoMemory),
+    }
+}
+
+// The answers to the questions of a file, of an event list.
+fn text_of_ask<S: Store>(
+    alloc: Global,
+    file: &Text,
+    questions: &Text,
+    store: &mut S,
+) -> Result<Vec<u8>, Status>
+    ensures text { IfOk result (λ text. IfSome (S.holds store.old) (λ files. IsAskOutput (bytes_of files [] file.now) (bytes_of files [] questions.now) text.items)) }
+    ensures fails { IfErr result (λ status. FailsBy (Refuses (Ask (input.List file.now) questions.now)) (S.holds store.old) (S.faults store.old) (S.faults store.new) status) }
+    ensures keeps { S.holds store.new ≡ S.holds store.old }
+{
+    let trace = read_events(alloc, file, store)?;
+    let questions = read_asked(alloc, questions, store)?;
+    match answers_text(alloc, &trace.events, &questions) {
+        Ok(text) => Ok(text),
+        Err(OutOfMemory) => Err(Status::NoMemory),
     }
 }

@@ -1,13 +1,17 @@
 //! The commands of hosttrace: words in, a text out, and a status that says what happened.
 #![tactic(auto)]
 
+mod answers_text;
 mod command;
 mod commands;
+mod inputs;
+mod questions;
 mod reading;
 mod rows;
 mod state_text;
 mod status;
 mod status_line;
+mod value_text;
 mod words;
 mod writing;
 

@@ -44,6 +44,7 @@ pub fn read_file<S: Store>(
     ensures small { IfOk result (λ v. length v.items ≤ FILE_LIMIT) }
     ensures large { result ≡ Err TooLarge → IfSome (S.holds store.old) (λ files. FILE_LIMIT < length (bytes_of files dir.now name.now)) }
     ensures fault { result ≡ Err Fault → HasRisen (S.faults store.old) (S.faults store.new) }
+    ensures grows { S.faults store.old ≤ S.faults store.new }
     ensures keeps { S.holds store.new ≡ S.holds store.old }
 {
     let mut buffer = zeros(alloc, BUFFER_SIZE)?;
@@ -73,6 +74,7 @@ fn read_all<S: Store>(
     ensures small { OnOk result (length bytes.new.items ≤ FILE_LIMIT) }
     ensures large { result ≡ Err TooLarge → IfSome (S.holds store.old) (λ files. FILE_LIMIT < length (bytes_of files dir.now name.now)) }
     ensures fault { result ≡ Err Fault → HasRisen (S.faults store.old) (S.faults store.new) }
+    ensures grows { S.faults store.old ≤ S.faults store.new }
     ensures keeps { S.holds store.new ≡ S.holds store.old }
 {
     while bytes.len() <= FILE_LIMIT {

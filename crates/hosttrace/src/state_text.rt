@@ -4,12 +4,13 @@ ghost use Rattle.std.specs.List.{AllPairs};
 ghost use Rattle.trace_types.specs.Paths.{place_of};
 ghost use Rattle.event_list.specs.Order.{RiseFrom};
 ghost use Rattle.kernel_provider.specs.Replay.{state_at};
-ghost use Rattle.hosttrace.specs.StateText.{IsStateText, IsNotAfter, row_text, value_text, int_text, has_value};
+ghost use Rattle.hosttrace.specs.StateText.{IsStateText, IsNotAfter, row_text, has_value};
 
 use crate::rows::{Row, rows_at};
+use crate::value_text::write_value;
 use std::alloc::Global;
 use std::io::Write;
-use trace_types::{Merged, OutOfMemory, Path, ThreadLeaf, Value, write_byte_text};
+use trace_types::{Merged, OutOfMemory, Value};
 
 /// The text of the state at an instant. The only error is want of memory.
 pub fn state_text(alloc: Global, events: &[Merged], at: u64) -> Result<Vec<u8>, OutOfMemory>
@@ -51,48 +52,7 @@ fn write_row(row: &Row, out: &mut Vec<u8>) -> Result<(), OutOfMemory>
 {
     let path = row.path;
     write!(out, "{path} ").map_err(|_| OutOfMemory)?;
-    write_value(row, out)?;
+    write_value(path, &row.value, out)?;
     out.push(b'\n')?;
-    Ok(())
-}
-
-fn write_value(row: &Row, out: &mut Vec<u8>) -> Result<(), OutOfMemory>
-    ensures { OnOk result (out.new.items ≡ out.old.items ++ value_text row.now.path row.now.value) }
-{
-    match row.value {
-        Value::Null => append(b"null", out),
-        Value::Int(number) => write_number(row.path, number, out),
-        Value::Comm(comm) => {
-            append(b"comm ", out)?;
-            write_byte_text(comm.as_bytes(), out)
-        }
-        Value::Call(number) => write!(out, "call {number}").map_err(|_| OutOfMemory),
-    }
-}
-
-// A number, which on a Status path is the word of a status.
-fn write_number(path: Path, number: i64, out: &mut Vec<u8>) -> Result<(), OutOfMemory>
-    ensures { OnOk result (out.new.items ≡ out.old.items ++ int_text path number) }
-{
-    let is_status = matches!(
-        path,
-        Path::Thread {
-            leaf: ThreadLeaf::Status,
-            ..
-        }
-    );
-    match number {
-        1 if is_status => append(b"status running", out),
-        2 if is_status => append(b"status ready", out),
-        3 if is_status => append(b"status blocked", out),
-        4 if is_status => append(b"status ended", out),
-        _ => write!(out, "int {number}").map_err(|_| OutOfMemory),
-    }
-}
-
-fn append(bytes: &[u8], out: &mut Vec<u8>) -> Result<(), OutOfMemory>
-    ensures { OnOk result (out.new.items ≡ out.old.items ++ bytes.now) }
-{
-    out.extend_from_slice(bytes)?;
     Ok(())
 }

@@ -6,13 +6,16 @@ ghost use Rattle.hosttrace.specs.Statuses.{code_of};
 #[derive(Clone, Copy, Debug, PartialEq, Eq)]
 pub enum ListFile {
     Events,
+    Questions,
 }
 
 /// What has a limit.
 #[derive(Clone, Copy, Debug, PartialEq, Eq)]
 pub enum Limit {
-    /// The bytes of a list.
+    /// The bytes of a file.
     File,
+    /// The line feeds of a question file.
+    Questions,
 }
 
 /// Why the input was refused. Lines count from 1.

@@ -25,7 +25,14 @@ impl fmt::Display for Refusal {
                 file: ListFile::Events,
                 line,
             } => write!(f, "list line {line}"),
+            Refusal::BadList {
+                file: ListFile::Questions,
+                line,
+            } => write!(f, "questions line {line}"),
             Refusal::TooLarge { what: Limit::File } => write!(f, "too large: file"),
+            Refusal::TooLarge {
+                what: Limit::Questions,
+            } => write!(f, "too large: questions"),
         }
     }
 }

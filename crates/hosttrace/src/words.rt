@@ -1,5 +1,6 @@
 //! Reading the words of a command line.
-ghost use Rattle.std.specs.Prelude.{◌≡◌, ◌↔◌, IsTrue, IfOk, Err, map, string_bytes};
+ghost use Rattle.std.specs.Prelude.{◌≡◌, ◌≢◌, ◌↔◌, ◌<◌, ◌^◌, ◌∷◌, [], ℕ, IsTrue, IfOk, Err, codes, map, string_bytes};
+ghost use Rattle.std.specs.Fmt.{decimal};
 ghost use Rattle.hosttrace.specs.Words.{IsCommand, IsFileWord};
 ghost use Rattle.hosttrace.specs.declared.words.WordsError.TheVariants.{Usage};
 ghost use Rattle.hosttrace.specs.declared.command.Command.{Command};
@@ -31,21 +32,42 @@ pub fn parse_words(alloc: Global, words: &[String]) -> Result<Command, WordsErro
     ensures found { IfOk result (λ c. IsCommand (map string_bytes words.now) c) }
     ensures usage { result ≡ Err Usage → (c : Command) → ¬ (IsCommand (map string_bytes words.now) c) }
 {
-    let [command, at_word, at, list_word, file] = words else {
+    let [command, first_word, first, list_word, file] = words else {
         return Err(WordsError::Usage);
     };
-    if command.as_str() != "state" || at_word.as_str() != "--at" || list_word.as_str() != "--list" {
+    if list_word.as_str() != "--list" || !is_file_word(file.as_bytes()) {
         return Err(WordsError::Usage);
     }
-    let Some(at) = read_number_below(at.as_bytes(), TIME_END) else {
+    match (command.as_str(), first_word.as_str()) {
+        ("state", "--at") => parse_state(alloc, first.as_bytes(), file.as_bytes()),
+        ("ask", "--questions") => parse_ask(alloc, first.as_bytes(), file.as_bytes()),
+        _ => Err(WordsError::Usage),
+    }
+}
+
+fn parse_state(alloc: Global, at: &[u8], file: &[u8]) -> Result<Command, WordsError>
+    requires { IsFileWord file.now }
+    ensures found { IfOk result (λ c. IsCommand (codes "state" ∷ codes "--at" ∷ at.now ∷ codes "--list" ∷ file.now ∷ []) c) }
+    ensures usage { result ≡ Err Usage → (n : ℕ) → n < 2 ^ 62 → at.now ≢ decimal n }
+{
+    let Some(at) = read_number_below(at, TIME_END) else {
         return Err(WordsError::Usage);
     };
-    let file = file.as_bytes();
-    if !is_file_word(file) {
+    let input = Input::List(Text::from_bytes(alloc, file)?);
+    Ok(Command::Plain(PlainCommand::State { input, at }))
+}
+
+fn parse_ask(alloc: Global, questions: &[u8], file: &[u8]) -> Result<Command, WordsError>
+    requires { IsFileWord file.now }
+    ensures found { IfOk result (λ c. IsCommand (codes "ask" ∷ codes "--questions" ∷ questions.now ∷ codes "--list" ∷ file.now ∷ []) c) }
+    ensures usage { result ≡ Err Usage → ¬ (IsFileWord questions.now) }
+{
+    if !is_file_word(questions) {
         return Err(WordsError::Usage);
     }
     let input = Input::List(Text::from_bytes(alloc, file)?);
-    Ok(Command::Plain(PlainCommand::State { input, at }))
+    let questions = Text::from_bytes(alloc, questions)?;
+    Ok(Command::Plain(PlainCommand::Ask { input, questions }))
 }
 
 // Whether a word can name a file.

@@ -1,4 +1,4 @@
-//! Runs words over one file in memory.
+//! Runs words over files in memory.
 use hosttrace::{Status, run};
 use ht_outside::{MemorySink, MemoryStore, OpenGate};
 use std::alloc::AllocGlobal;
@@ -15,13 +15,20 @@ pub struct Ran {
 /// Runs the words of a line, where a file of this name lies in the folder that the program was
 /// called in.
 pub fn run_on<R: AllocGlobal>(rt: &R, line: &str, name: &str, bytes: &[u8]) -> Result<Ran, Fail> {
+    run_over(rt, line, &[(name, bytes)])
+}
+
+/// The same, where several files lie there.
+pub fn run_over<R: AllocGlobal>(rt: &R, line: &str, files: &[(&str, &[u8])]) -> Result<Ran, Fail> {
     let alloc = rt.alloc();
     let mut words = Vec::new(alloc);
     for word in line.split_whitespace() {
         words.push(String::from_str(alloc, word)?)?;
     }
     let mut store = MemoryStore::new(alloc);
-    store.put(b"", name.as_bytes(), bytes)?;
+    for (name, bytes) in files {
+        store.put(b"", name.as_bytes(), bytes)?;
+    }
     let mut out = MemorySink {
         bytes: Vec::new(alloc),
     };

@@ -2,11 +2,17 @@
 #![tactic(auto)]
 
 #[cfg(test)]
+mod ask_runs;
+#[cfg(test)]
 mod bad_lists;
+#[cfg(test)]
+mod bad_questions;
 #[cfg(test)]
 mod folders;
 #[cfg(test)]
 mod harness;
+#[cfg(test)]
+mod history_runs;
 #[cfg(test)]
 mod small_texts;
 #[cfg(test)]

@@ -1,1 +1,4 @@
 pub mod Turns
+pub mod Tables
+pub mod Keys
+pub mod Replayed

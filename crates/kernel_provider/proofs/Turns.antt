@@ -2,15 +2,14 @@
 use Rattle.std.proofs.Common.{◌≡◌, ℕ, zero, suc, ◌+◌, Bool, true, false, not, cond, if◌then◌else◌, List, [], ◌∷◌, drop, Option, Some, None, is_some, refl, sym, ap, ◌∙◌, subst, arith, slice_get, Result, Ok, Err, IfOk, OnOk}
 use Rattle.std.specs.Prelude.{unwrap_or}
 use Rattle.std.specs.Map.{lookup}
-use Rattle.indexmap.specs.IndexMap.{insert_entry}
 use Rattle.trace_types.specs.declared.path.Path.{Path as AttributePath}
 use Rattle.trace_types.specs.declared.value.Value.{Value}
 use Rattle.trace_types.specs.declared.value.Value.TheVariants.{Null}
 use Rattle.trace_types.specs.Same.{same_path, same_value}
-use Rattle.trace_types.proofs.Same.{path_itself}
+use Rattle.trace_types.proofs.Same.{path_itself, value_is, value_itself}
 use Rattle.kernel_provider.specs.declared.rules.Assignment.{Assignment}
 use Rattle.kernel_provider.specs.declared.step.Step.TheVariants.{Add, Change}
-use Rattle.kernel_provider.specs.Steps.{Table, value_in, is_held, number_of, is_idle, all_assigned, all_assignment_steps}
+use Rattle.kernel_provider.specs.Steps.{Table, with_value, value_in, is_held, number_of, is_idle, all_assigned, all_assignment_steps}
 
 pub head : {X : Type 0} (xs : List X) (i : ℕ) (x : X) → slice_get xs i ≡ Some x → drop i xs ≡ x ∷ drop (i + 1) xs
 head {X} xs i x e = by xs i e ∙ ap (λ n. x ∷ drop n xs) next
@@ -24,31 +23,31 @@ head {X} xs i x e = by xs i e ∙ ap (λ n. x ∷ drop n xs) next
     by (y ∷ ys) (suc i) e = by ys i e
 
 -- what stands at a path that was written
-pub lookup-insert_entry : (table : Table) (p : AttributePath) (v : Value) → lookup (same_path p) (insert_entry same_path table p v) ≡ Some v
-lookup-insert_entry [] p v = rw (path_itself p) refl
-lookup-insert_entry (e ∷ es) p v = by (same_path p e.0) refl (lookup-insert_entry es p v)
+pub lookup-with_value : (table : Table) (p : AttributePath) (v : Value) → lookup (same_path p) (with_value table p v) ≡ Some v
+lookup-with_value [] p v = rw (path_itself p) refl
+lookup-with_value (e ∷ es) p v = by (same_path p e.0) refl (lookup-with_value es p v)
   where
-    by : (b : Bool) → same_path p e.0 ≡ b → lookup (same_path p) (insert_entry same_path es p v) ≡ Some v → lookup (same_path p) (if b then (e.0, v) ∷ es else e ∷ insert_entry same_path es p v) ≡ Some v
+    by : (b : Bool) → same_path p e.0 ≡ b → lookup (same_path p) (with_value es p v) ≡ Some v → lookup (same_path p) (if b then (e.0, v) ∷ es else e ∷ with_value es p v) ≡ Some v
     by true is rest = rw is refl
     by false is rest = rw is rest
 
 -- the later of two writes stands
-pub insert_entry-insert_entry : (table : Table) (p : AttributePath) (v w : Value) → insert_entry same_path (insert_entry same_path table p v) p w ≡ insert_entry same_path table p w
-insert_entry-insert_entry [] p v w = rw (path_itself p) refl
-insert_entry-insert_entry (e ∷ es) p v w = by (same_path p e.0) refl (insert_entry-insert_entry es p v w)
+pub with_value-with_value : (table : Table) (p : AttributePath) (v w : Value) → with_value (with_value table p v) p w ≡ with_value table p w
+with_value-with_value [] p v w = rw (path_itself p) refl
+with_value-with_value (e ∷ es) p v w = by (same_path p e.0) refl (with_value-with_value es p v w)
   where
-    by : (b : Bool) → same_path p e.0 ≡ b → insert_entry same_path (insert_entry same_path es p v) p w ≡ insert_entry same_path es p w
-        → insert_entry same_path (if b then (e.0, v) ∷ es else e ∷ insert_entry same_path es p v) p w ≡ (if b then (e.0, w) ∷ es else e ∷ insert_entry same_path es p w)
+    by : (b : Bool) → same_path p e.0 ≡ b → with_value (with_value es p v) p w ≡ with_value es p w
+        → with_value (if b then (e.0, v) ∷ es else e ∷ with_value es p v) p w ≡ (if b then (e.0, w) ∷ es else e ∷ with_value es p w)
     by true is rest = rw is refl
     by false is rest = rw is (ap (λ l. e ∷ l) rest)
 
 -- a path has its number from before it is added
-pub number_of-insert_entry : (table : Table) (p : AttributePath) (v : Value) → number_of (insert_entry same_path table p v) p ≡ number_of table p
-number_of-insert_entry [] p v = rw (path_itself p) refl
-number_of-insert_entry (e ∷ es) p v = by (same_path p e.0) refl (number_of-insert_entry es p v)
+pub number_of-with_value : (table : Table) (p : AttributePath) (v : Value) → number_of (with_value table p v) p ≡ number_of table p
+number_of-with_value [] p v = rw (path_itself p) refl
+number_of-with_value (e ∷ es) p v = by (same_path p e.0) refl (number_of-with_value es p v)
   where
-    by : (b : Bool) → same_path p e.0 ≡ b → number_of (insert_entry same_path es p v) p ≡ number_of es p
-        → number_of (if b then (e.0, v) ∷ es else e ∷ insert_entry same_path es p v) p ≡ cond (not b) (1 + number_of es p) 0
+    by : (b : Bool) → same_path p e.0 ≡ b → number_of (with_value es p v) p ≡ number_of es p
+        → number_of (if b then (e.0, v) ∷ es else e ∷ with_value es p v) p ≡ cond (not b) (1 + number_of es p) 0
     by true is rest = rw is refl
     by false is rest = rw is (ap (λ n. 1 + n) rest)
 
@@ -61,10 +60,10 @@ module _ (t : ℕ) (table : Table) (a : Assignment) (more : List Assignment) whe
   idle_table e = rw e refl
 
   -- an assignment to a path that was added
-  pub change_steps : is_idle table a ≡ false → is_held table a.path ≡ true → all_assignment_steps t table (a ∷ more) ≡ Change t (number_of table a.path) a.value ∷ all_assignment_steps t (insert_entry same_path table a.path a.value) more
+  pub change_steps : is_idle table a ≡ false → is_held table a.path ≡ true → all_assignment_steps t table (a ∷ more) ≡ Change t (number_of table a.path) a.value ∷ all_assignment_steps t (with_value table a.path a.value) more
   change_steps e h = rw (e, h) refl
 
-  pub change_table : is_idle table a ≡ false → all_assigned table (a ∷ more) ≡ all_assigned (insert_entry same_path table a.path a.value) more
+  pub change_table : is_idle table a ≡ false → all_assigned table (a ∷ more) ≡ all_assigned (with_value table a.path a.value) more
   change_table e = rw e refl
 
   new_value : is_held table a.path ≡ false → value_in table a.path ≡ Null
@@ -74,18 +73,26 @@ module _ (t : ℕ) (table : Table) (a : Assignment) (more : List Assignment) whe
       by None h = refl
       by (Some v) h = absurd (cc)
 
-  same_idle : is_held table a.path ≡ false → is_idle (insert_entry same_path table a.path Null) a ≡ is_idle table a
-  same_idle h = ap (λ v. same_value v a.value) (ap (λ o. unwrap_or o Null) (lookup-insert_entry table a.path Null) ∙ sym (new_value h))
+  same_idle : is_held table a.path ≡ false → is_idle (with_value table a.path Null) a ≡ is_idle table a
+  same_idle h = ap (λ v. same_value v a.value) (ap (λ o. unwrap_or o Null) (lookup-with_value table a.path Null) ∙ sym (new_value h))
 
-  held_now : is_held (insert_entry same_path table a.path Null) a.path ≡ true
-  held_now = ap is_some (lookup-insert_entry table a.path Null)
+  held_now : is_held (with_value table a.path Null) a.path ≡ true
+  held_now = ap is_some (lookup-with_value table a.path Null)
+
+  -- a value is assigned to a new path
+  pub new_busy : is_held table a.path ≡ false → same_value a.value Null ≡ false → is_idle table a ≡ false
+  new_busy h g = by (same_value Null a.value) refl
+    where
+      by : (b : Bool) → same_value Null a.value ≡ b → is_idle table a ≡ false
+      by true e = let yes : same_value a.value Null ≡ true = subst (λ v. same_value a.value v ≡ true) (sym (value_is Null a.value e)) (value_itself a.value) in absurd (cc)
+      by false e = rw (new_value h) e
 
   -- an assignment to a new path
-  pub add_steps : is_idle table a ≡ false → is_held table a.path ≡ false → all_assignment_steps t table (a ∷ more) ≡ Add a.path ∷ all_assignment_steps t (insert_entry same_path table a.path Null) (a ∷ more)
-  add_steps e h = rw (same_idle h ∙ e, held_now, e, h, number_of-insert_entry table a.path Null, insert_entry-insert_entry table a.path Null a.value) refl
+  pub add_steps : is_idle table a ≡ false → is_held table a.path ≡ false → all_assignment_steps t table (a ∷ more) ≡ Add a.path ∷ all_assignment_steps t (with_value table a.path Null) (a ∷ more)
+  add_steps e h = rw (same_idle h ∙ e, held_now, e, h, number_of-with_value table a.path Null, with_value-with_value table a.path Null a.value) refl
 
-  pub add_table : is_idle table a ≡ false → is_held table a.path ≡ false → all_assigned table (a ∷ more) ≡ all_assigned (insert_entry same_path table a.path Null) (a ∷ more)
-  add_table e h = rw (same_idle h ∙ e, e, insert_entry-insert_entry table a.path Null a.value) refl
+  pub add_table : is_idle table a ≡ false → is_held table a.path ≡ false → all_assigned table (a ∷ more) ≡ all_assigned (with_value table a.path Null) (a ∷ more)
+  add_table e h = rw (same_idle h ∙ e, e, with_value-with_value table a.path Null a.value) refl
 
 -- the clauses of a call that succeeded
 pub at_ok : {A E : Type 0} (r : Result A E) (x : A) (Q : A → Type 0) → IfOk r Q → r ≡ Ok x → Q x

@@ -6,6 +6,11 @@ use Rattle.kernel_provider.specs.declared.step.Step.{Step}
 use Rattle.kernel_provider.specs.declared.queue.Queue.{Queue}
 use Rattle.kernel_provider.specs.Steps.{Table, all_assigned, all_assignment_steps, steps_from}
 
+-- the table of paths, and whether one more can be added without memory
+pub record Entries : Type 0 where
+  pub table : Table
+  pub has_room : Bool
+
 -- the table of paths, the assignments that wait for their steps with the key of their event, the built end, the number of events begun, and whether Finish was given
 pub record Given : Type 0 where
   pub table : Table
@@ -35,7 +40,7 @@ given_of table queue = record {
 abbrev pub work : Queue → List Merged → ℕ
 work queue events = 9 * (length events - queue.place) + length (drop queue.next queue.assignments.items)
 
--- a turn of the assignments that wait gave at most one step, and leaves the steps of the others
+-- a turn of an assignment that waits gave at most one step, and leaves the steps of the others
 abbrev pub GivesStep : Table → Queue → Table → Queue → Option Step → Type 0
 GivesStep table queue table' queue' step =
     (all_assignment_steps queue.key table (drop queue.next queue.assignments.items) ≡ option_to_list step ++ all_assignment_steps queue.key table' (drop queue'.next queue.assignments.items))

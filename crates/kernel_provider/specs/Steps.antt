@@ -2,7 +2,6 @@
 use Rattle.std.specs.Prelude.{ℕ, Bool, nat_lt, max, if◌then◌else◌, List, [], ◌∷◌, ◌++◌, unwrap_or, is_some}
 use Rattle.std.specs.List.{position_or_len}
 use Rattle.std.specs.Map.{lookup, keys_of}
-pub use Rattle.indexmap.specs.IndexMap.{insert_entry}
 use Rattle.trace_types.specs.declared.path.Path.{Path as AttributePath}
 use Rattle.trace_types.specs.declared.value.Value.{Value}
 use Rattle.trace_types.specs.declared.value.Value.TheVariants.{Null}
@@ -16,6 +15,11 @@ use Rattle.kernel_provider.specs.Rules.{Values, assignments}
 -- the paths that were added, in order, with their current values
 abbrev pub Table : Type 0
 Table = List (AttributePath × Value)
+
+-- the table with another value of a path: at its place, or behind the others where it wasn't added
+abbrev pub with_value : Table → AttributePath → Value → Table
+with_value [] p v = (p, v) ∷ []
+with_value (e ∷ es) p v = if same_path p e.0 then (e.0, v) ∷ es else e ∷ with_value es p v
 
 -- a path's current value: Null where it wasn't added
 abbrev pub value_in : Table → Values
@@ -33,7 +37,7 @@ abbrev pub is_idle : Table → Assignment → Bool
 is_idle table a = same_value (value_in table a.path) a.value
 
 abbrev pub assigned : Table → Assignment → Table
-assigned table a = if is_idle table a then table else insert_entry same_path table a.path a.value
+assigned table a = if is_idle table a then table else with_value table a.path a.value
 
 abbrev pub all_assigned : Table → List Assignment → Table
 all_assigned table [] = table

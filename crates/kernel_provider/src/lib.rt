@@ -5,6 +5,7 @@ mod provider;
 mod queue;
 mod rules;
 mod step;
+mod table;
 
 pub use provider::Provider;
 pub use step::Step;

@@ -1,14 +1,13 @@
 //! The steps of a merge, one at a time.
-ghost use Rattle.std.specs.Prelude.{◌≡◌, ◌<◌, ◌++◌, ◌^◌, [], List, length, IfOk, IfNone, OnOk, OnErr, option_to_list};
-ghost use Rattle.indexmap.specs.IndexMap.{spare};
+ghost use Rattle.std.specs.Prelude.{◌≡◌, ◌++◌, [], true, List, IfOk, IfNone, OnOk, OnErr, option_to_list};
 ghost use Rattle.kernel_provider.specs.Given.{given_of, left};
 ghost use Rattle.kernel_provider.specs.Steps.{steps_of};
 ghost use Rattle.trace_types.specs.declared.event.Merged.{Merged};
 
 use crate::queue::{Queue, take_turn};
-use crate::rules::{Assignments, Table};
+use crate::rules::Assignments;
 use crate::step::Step;
-use indexmap::IndexMap;
+use crate::table::Table;
 use std::alloc::Global;
 use std::marker::Model;
 use trace_types::{Merged, OutOfMemory};
@@ -25,7 +24,7 @@ impl Model for Provider {
 
     ghost Value = { Given };
 
-    ghost view = { λ p. given_of p.table.entries p.queue };
+    ghost view = { λ p. given_of p.table.table p.queue };
 }
 
 impl Provider {
@@ -34,7 +33,7 @@ impl Provider {
         ensures { (events : List Merged) → left result events ≡ steps_of events }
     {
         Provider {
-            table: IndexMap::new(alloc),
+            table: Table::new(alloc),
             queue: Queue {
                 assignments: Assignments::new(),
                 next: 0,
@@ -53,30 +52,16 @@ impl Provider {
         ensures none { IfOk result (λ step. IfNone step (left self.old events.now ≡ [])) }
         ensures err { OnErr result (self.new ≡ self.old) }
     {
-        make_room(&mut self.table)?;
+        self.table.reserve()?;
         Ok(next_of(&mut self.table, &mut self.queue, events))
     }
 }
 
-// Makes room for one more path. Paths are numbered by 32 bits.
-fn make_room(table: &mut Table) -> Result<(), OutOfMemory>
-    ensures same { table.new.entries ≡ table.old.entries }
-    ensures room { OnOk result (0 < spare table.new) }
-    ensures numbers { OnOk result (length table.new.entries < 2 ^ 32) }
-{
-    if table.len() >= u32::MAX as usize {
-        return Err(OutOfMemory);
-    }
-    table.reserve(1)?;
-    Ok(())
-}
-
 // Takes turns until one gives a step, or none is left.
 fn next_of(table: &mut Table, queue: &mut Queue, events: &[Merged]) -> Option<Step>
-    requires room { 0 < spare table.old }
-    requires numbers { length table.old.entries < 2 ^ 32 }
-    ensures steps { left (given_of table.old.entries queue.old) events.now ≡ option_to_list result ++ left (given_of table.new.entries queue.new) events.now }
-    ensures none { IfNone result (left (given_of table.old.entries queue.old) events.now ≡ []) }
+    requires room { table.old.has_room ≡ true }
+    ensures steps { left (given_of table.old.table queue.old) events.now ≡ option_to_list result ++ left (given_of table.new.table queue.new) events.now }
+    ensures none { IfNone result (left (given_of table.old.table queue.old) events.now ≡ []) }
 {
     while !queue.is_finished {
         let step = take_turn(table, queue, events);

@@ -4,8 +4,8 @@ ghost use Rattle.arrayvec.specs.ArrayVec.{array_vec_len};
 ghost use Rattle.kernel_provider.specs.Rules.{assignments, left_status, gives};
 ghost use Rattle.kernel_provider.specs.Steps.{value_in};
 
+use crate::table::Table;
 use arrayvec::ArrayVec;
-use indexmap::IndexMap;
 use trace_types::{CpuLeaf, Event, KernelEvent, Path, ThreadKey, ThreadLeaf, Value};
 
 /// An attribute's next value.
@@ -32,9 +32,6 @@ impl Default for Assignment {
 /// The assignments of one event, at most so many.
 pub type Assignments = ArrayVec<Assignment, 8>;
 
-/// The paths that were added, in order, with their current values.
-pub type Table = IndexMap<Path, Value>;
-
 const RUNNING: Value = Value::Int(1);
 
 const READY: Value = Value::Int(2);
@@ -45,7 +42,7 @@ const ENDED: Value = Value::Int(4);
 
 /// Writes what an event assigns, in order, by the values before it.
 pub fn assign(table: &Table, event: &Event, out: &mut Assignments)
-    ensures { out.new.items ≡ assignments (value_in table.now.entries) event.now }
+    ensures { out.new.items ≡ assignments (value_in table.now.table) event.now }
 {
     let KernelEvent::Switch {
         prev_state,
@@ -60,7 +57,7 @@ pub fn assign(table: &Table, event: &Event, out: &mut Assignments)
     let next = Thread::of(event, next_tid);
     out.clear();
     let status = prev.at(ThreadLeaf::Status);
-    if value_of(table, &status) != ENDED {
+    if table.value_of(&status) != ENDED {
         give(out, status, left_status(prev_state));
     }
     give(out, prev.at(ThreadLeaf::Name), Value::Comm(prev_comm));
@@ -135,13 +132,6 @@ fn left_status(state: i64) -> Value
     } else {
         BLOCKED
     }
-}
-
-/// A path's current value.
-pub fn value_of(table: &Table, path: &Path) -> Value
-    ensures { result ≡ value_in table.now.entries path.now }
-{
-    table.get(path).copied().unwrap_or(Value::Null)
 }
 
 fn give(out: &mut Assignments, path: Path, value: Value)

@@ -1,6 +1,7 @@
 -- Decimal texts of numbers as wide as 128 bits.
 use Rattle.std.proofs.Common.{◌≡◌, ◌≢◌, ℕ, ℤ, pos, negsuc, zero, suc, ◌+◌, ◌*◌, ◌/◌, ◌%◌, ◌<◌, ◌≤◌, ◌^◌, List, [], ◌∷◌, ◌++◌, length, get_or, refl, sym, ap, ◌∙◌, subst, append_assoc, append-nil, arith, rules, Result, Ok, Err, None, Some, MatchResult, lit≤, lit<, Bool, true, false, IsTrue, ◌↔◌, neg_ℤ, FitsSigned, le_of_lt}
 use Rattle.std.proofs.Math.Nat.{lt_of_lt_of_le, lt_of_le_of_lt}
+use Rattle.std.specs.List.{AllByRecursion}
 use Rattle.std.specs.Str.{IsUtf8}
 use Rattle.std.specs.Result.{result_ok}
 use Rattle.std.specs.Int.{w64}
@@ -183,3 +184,11 @@ refused P N Q (Err x) h e = h.0
 pub given : {A X : Type 0} (P : A → Type 0) (Q : X → Type 0) (r : Result A X) (x : A) → MatchResult r P Q → Some x ≡ result_ok r → P x
 given P Q (Ok y) x h e = let same : y ≡ x = cc in subst P same h
 given P Q (Err y) x h e = absurd (cc)
+
+-- digits are past the slash
+pub decimal_high : (n : ℕ) → n < 2 ^ 128 → AllByRecursion (λ b. 47 < b) (decimal n)
+decimal_high n h = high (decimal n) (decimal_is_IsNumeral_wide n (wide n h)).0.1
+  where
+    high : (ds : List ℕ) → AllDigits 10 ds → AllByRecursion (λ b. 47 < b) ds
+    high [] g = tt
+    high (d ∷ ds) g = (omega (arith, (digit_from_value d g.0).0), high ds g.1)

@@ -3,3 +3,4 @@ pub mod Names
 pub mod Same
 pub mod Cutting
 pub mod PathWords
+pub mod Everywhere

@@ -7,22 +7,26 @@ use Rattle.std.specs.Str.Parse.{AllDigits}
 use Rattle.std.proofs.lemmas.Fmt.{decimal_is_IsNumeral_wide}
 use Rattle.std.proofs.lemmas.Str.Parse.{digit_from_value}
 use Rattle.trace_types.proofs.Cutting.{same_front, has_end}
-use Rattle.trace_types.proofs.Decimals.{wide, below_wide, same_number}
+use Rattle.trace_types.proofs.Decimals.{wide, below_wide, same_number, decimal_high}
+use Rattle.trace_types.proofs.Everywhere.{all_weaker, all_both, visible}
 use Rattle.trace_types.specs.declared.path.Path.{Path as AttributePath}
 use Rattle.trace_types.specs.declared.path.Path.TheVariants.{Cpu, Thread}
 use Rattle.trace_types.specs.declared.path.ThreadKey.{ThreadKey}
 use Rattle.trace_types.specs.declared.path.ThreadKey.TheVariants.{Idle, Tid}
+use Rattle.trace_types.specs.declared.path.CpuLeaf.{CpuLeaf}
+use Rattle.trace_types.specs.declared.path.CpuLeaf.TheVariants as cpu_leaf
+use Rattle.trace_types.specs.declared.path.ThreadLeaf.{ThreadLeaf}
+use Rattle.trace_types.specs.declared.path.ThreadLeaf.TheVariants as thread_leaf
 use Rattle.trace_types.specs.Paths.{path_text, path_words, thread_text, cpu_leaf_text, thread_leaf_text, IsPath, IsThreadKey, SpellsPath, ArePathWords}
 
 abbrev pub NoSlash : List ℕ → Type 0
 NoSlash = AllByRecursion (λ b. b ≢ 47)
 
-digits_no_slash : (ds : List ℕ) → AllDigits 10 ds → NoSlash ds
-digits_no_slash [] h = tt
-digits_no_slash (d ∷ ds) h = let k = (digit_from_value d h.0).0 in (λ e. omega (arith, k, e), digits_no_slash ds h.1)
+no_slash : (ds : List ℕ) → AllByRecursion (λ b. 47 < b) ds → NoSlash ds
+no_slash ds h = all_weaker (λ b. 47 < b) (λ b. b ≢ 47) ds (λ b k e. omega (arith, k, e)) h
 
 decimal_no_slash : (n limit : ℕ) → n < limit → limit < 2 ^ 64 → NoSlash (decimal n)
-decimal_no_slash n limit h g = digits_no_slash (decimal n) (decimal_is_IsNumeral_wide n (wide n (below_wide n limit h g))).0.1
+decimal_no_slash n limit h g = no_slash (decimal n) (decimal_high n (below_wide n limit h g))
 
 key_no_slash : (k : ThreadKey) → IsThreadKey k → NoSlash (thread_text k)
 key_no_slash (Idle cpu) h = ((λ e. omega (arith, e)), ((λ e. omega (arith, e)), decimal_no_slash cpu (2 ^ 32) h (omega arith)))
@@ -142,3 +146,39 @@ no_tid word e (Idle cpu) h is = plain_key 0 (decimal cpu) (omega arith) (sym is 
 no_tid word e (Tid tid) h is =
     let same : tid ≡ 0 = same_number tid 0 (below_wide tid (2 ^ 31) h.1 (omega arith)) (below_wide 0 1 (omega arith) (omega arith)) (sym is ∙ e) in
     omega (arith, same, h.0)
+
+-- ---- no byte of a path's text is a space or less
+abbrev pub IsWord : List ℕ → Type 0
+IsWord = AllByRecursion (λ b. 32 < b)
+
+decimal_word : (n limit : ℕ) → n < limit → limit < 2 ^ 64 → IsWord (decimal n)
+decimal_word n limit h g = all_weaker (λ b. 47 < b) (λ b. 32 < b) (decimal n) (λ b k. omega (arith, k)) (decimal_high n (below_wide n limit h g))
+
+cpu_leaf_word : (l : CpuLeaf) → IsWord (cpu_leaf_text l)
+cpu_leaf_word cpu_leaf.Thread = visible (codes "Thread") refl
+cpu_leaf_word cpu_leaf.Irq = visible (codes "Irq") refl
+cpu_leaf_word cpu_leaf.Softirq = visible (codes "Softirq") refl
+
+thread_leaf_word : (l : ThreadLeaf) → IsWord (thread_leaf_text l)
+thread_leaf_word thread_leaf.Status = visible (codes "Status") refl
+thread_leaf_word thread_leaf.Name = visible (codes "Name") refl
+thread_leaf_word thread_leaf.Cpu = visible (codes "Cpu") refl
+thread_leaf_word thread_leaf.Prio = visible (codes "Prio") refl
+thread_leaf_word thread_leaf.Parent = visible (codes "Parent") refl
+thread_leaf_word thread_leaf.Call = visible (codes "Call") refl
+
+key_word : (k : ThreadKey) → IsThreadKey k → IsWord (thread_text k)
+key_word (Idle cpu) h = all_both (λ b. 32 < b) (codes "0_") (decimal cpu) (visible (codes "0_") refl) (decimal_word cpu (2 ^ 32) h (omega arith))
+key_word (Tid tid) h = decimal_word tid (2 ^ 31) h.1 (omega arith)
+
+joined_word : (a s b l : List ℕ) → IsWord a → IsWord s → IsWord b → IsWord l → IsWord (codes "h" ++ a ++ s ++ b ++ codes "/" ++ l)
+joined_word a s b l ha hs hb hl =
+    all_both (λ b. 32 < b) (codes "h" ++ a ++ s ++ b ++ codes "/") l
+    (all_both (λ b. 32 < b) (codes "h" ++ a ++ s ++ b) (codes "/")
+    (all_both (λ b. 32 < b) (codes "h" ++ a ++ s) b
+    (all_both (λ b. 32 < b) (codes "h" ++ a) s
+    (all_both (λ b. 32 < b) (codes "h") a (visible (codes "h") refl) ha) hs) hb) (visible (codes "/") refl)) hl
+
+pub path_word : (p : AttributePath) → IsPath p → IsWord (path_text p)
+path_word (Cpu host cpu leaf) h = joined_word (decimal host) (codes "/Cpu/") (decimal cpu) (cpu_leaf_text leaf) (decimal_word host 64 h.0 (omega arith)) (visible (codes "/Cpu/") refl) (decimal_word cpu (2 ^ 32) h.1 (omega arith)) (cpu_leaf_word leaf)
+path_word (Thread host thread leaf) h = joined_word (decimal host) (codes "/Thread/") (thread_text thread) (thread_leaf_text leaf) (decimal_word host 64 h.0 (omega arith)) (visible (codes "/Thread/") refl) (key_word thread h.1) (thread_leaf_word leaf)

@@ -4,3 +4,4 @@ pub mod ByteTexts
 pub mod Numbers
 pub mod Paths
 pub mod Same
+pub mod Order

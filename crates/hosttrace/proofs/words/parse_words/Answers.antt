@@ -1,21 +1,28 @@
-use Rattle.std.proofs.Common.{sym, ◌∙◌, refl, codes}
+use Rattle.std.proofs.Common.{◌≡◌, ◌∷◌, [], List, ℕ, sym, subst, ◌∙◌, refl, codes, map, rules, IfOk}
 use Rattle.std.specs.Prelude.{string_bytes}
+use Rattle.hosttrace.specs.Words.{IsCommand}
 use Rattle.hosttrace.proofs.WordPlaces.{no_time, five, same_text}
 use Rattle.hosttrace.proofs.words.parse_words.Goals as goal
 
-pub returns-in_default-read_number_below-clause-usage : goal.returns-in_default-read_number_below-clause-usage
-returns-in_default-read_number_below-clause-usage c = λ e. no_time string_bytes c.args.words.now c.at-item.result _ c.in-len5.len_at_least c.at-item.is c.as_bytes.ensures.value c.in_default-read_number_below.ensures.none
+pub returns-in-state-text-clause-found : goal.returns-in-state-text-clause-found
+returns-in-state-text-clause-found c =
+    let words = five string_bytes c.args.words.now c.command-item.result c.first_word-item.result c.first-item.result c.list_word-item.result c.file-item.result c.in-len5.len_at_least c.in-len5.len_below c.command-item.is c.first_word-item.is c.first-item.is c.list_word-item.is c.file-item.is in
+    let list : string_bytes c.list_word-item.result ≡ codes "--list" = same_text c.ne.result (string_bytes c.list_word-item.result) _ (codes "--list") c.ne.ensures c.if-ne.false c.as_str.ensures.value in
+    let command : string_bytes c.command-item.result ≡ codes "state" = search rules in
+    let first : string_bytes c.first_word-item.result ≡ codes "--at" = search rules in
+    subst (λ (ws : List (List ℕ)). IfOk c.parse_state.result (λ k. IsCommand ws k)) (sym words) (rw (command, first, list, sym c.as_bytes-in-state-text.ensures.value, sym c.as_bytes-in-state-text-2.ensures.value) c.parse_state.ensures.found)
 
-pub returns-clause-found : goal.returns-clause-found
-returns-clause-found c = record {
-  words_are = rw (
-    five string_bytes c.args.words.now c.command-item.result c.at_word-item.result c.at-item.result c.list_word-item.result c.file-item.result c.in-len5.len_at_least c.in-len5.len_below c.command-item.is c.at_word-item.is c.at-item.is c.list_word-item.is c.file-item.is,
-    same_text c.ne.result (string_bytes c.command-item.result) _ (codes "state") c.ne.ensures c.if-ne.false c.as_str.ensures.value,
-    same_text c.ne-else-ne.result (string_bytes c.at_word-item.result) _ (codes "--at") c.ne-else-ne.ensures c.if-ne-2.false c.as_str-else-ne.ensures.value,
-    same_text c.ne-else-ne-2.result (string_bytes c.list_word-item.result) _ (codes "--list") c.ne-else-ne-2.ensures c.if-ne-3.false c.as_str-else-ne-2.ensures.value,
-    sym c.as_bytes.ensures.value ∙ c.in-Some.ensures.found.0,
-    sym c.as_bytes-file.ensures.value ∙ sym c.in_ok-from_bytes.ensures.value,
-  ) refl;
-  at_below = c.in-Some.ensures.found.1;
-  is_file = rw c.in_ok-from_bytes.ensures.value (c.is_file_word.ensures.0 c.if-not-is_file_word.false);
-}
+pub returns-in-ask-text-clause-found : goal.returns-in-ask-text-clause-found
+returns-in-ask-text-clause-found c =
+    let words = five string_bytes c.args.words.now c.command-item.result c.first_word-item.result c.first-item.result c.list_word-item.result c.file-item.result c.in-len5.len_at_least c.in-len5.len_below c.command-item.is c.first_word-item.is c.first-item.is c.list_word-item.is c.file-item.is in
+    let list : string_bytes c.list_word-item.result ≡ codes "--list" = same_text c.ne.result (string_bytes c.list_word-item.result) _ (codes "--list") c.ne.ensures c.if-ne.false c.as_str.ensures.value in
+    let command : string_bytes c.command-item.result ≡ codes "ask" = search rules in
+    let first : string_bytes c.first_word-item.result ≡ codes "--questions" = search rules in
+    subst (λ (ws : List (List ℕ)). IfOk c.parse_ask.result (λ k. IsCommand ws k)) (sym words) (rw (command, first, list, sym c.as_bytes-in-ask-text.ensures.value, sym c.as_bytes-in-ask-text-2.ensures.value) c.parse_ask.ensures.found)
+
+pub returns-in-state-text-clause-usage : goal.returns-in-state-text-clause-usage
+returns-in-state-text-clause-usage c =
+    let words = five string_bytes c.args.words.now c.command-item.result c.first_word-item.result c.first-item.result c.list_word-item.result c.file-item.result c.in-len5.len_at_least c.in-len5.len_below c.command-item.is c.first_word-item.is c.first-item.is c.list_word-item.is c.file-item.is in
+    let command : string_bytes c.command-item.result ≡ codes "state" = search rules in
+    let first : string_bytes c.first_word-item.result ≡ codes "--at" = search rules in
+    λ e. no_time (map string_bytes c.args.words.now) (string_bytes c.list_word-item.result ∷ string_bytes c.file-item.result ∷ []) c.as_bytes-in-state-text.result.now (words ∙ rw (command, first, sym c.as_bytes-in-state-text.ensures.value) refl) (c.parse_state.ensures.usage e)

@@ -1,0 +1,62 @@
+-- The number of a path among others.
+use Rattle.std.proofs.Common.{◌≡◌, ℕ, suc, ◌+◌, ◌<◌, ◌≤◌, Bool, true, false, not, cond, nat_lt, List, [], ◌∷◌, length, slice_get, Some, None, refl, sym, ap, subst, arith}
+use Rattle.std.specs.List.{position_or_len}
+use Rattle.std.proofs.lemmas.Bool.{ltb-true, ltb-false, lt-ltb}
+use Rattle.trace_types.specs.declared.path.Path.{Path as AttributePath}
+use Rattle.trace_types.specs.Same.{same_path}
+use Rattle.trace_types.proofs.Same.{path_is}
+use Rattle.attribute_tree.specs.Numbered.{number_among}
+
+one-add : (n : ℕ) → 1 + n ≡ suc n
+one-add n = omega arith
+
+place_stands : (paths : List AttributePath) (p : AttributePath) → position_or_len (same_path p) paths < length paths → slice_get paths (position_or_len (same_path p) paths) ≡ Some p
+place_stands [] p h = absurd (omega arith)
+place_stands (q ∷ qs) p h = by (same_path p q) refl h (place_stands qs p)
+  where
+    by : (b : Bool) → same_path p q ≡ b → cond (not b) (1 + position_or_len (same_path p) qs) 0 < suc (length qs) → (position_or_len (same_path p) qs < length qs → slice_get qs (position_or_len (same_path p) qs) ≡ Some p)
+        → slice_get (q ∷ qs) (cond (not b) (1 + position_or_len (same_path p) qs) 0) ≡ Some p
+    by true is h rest = ap Some (sym (path_is p q is))
+    by false is h rest = rw one-add (rest (omega arith))
+
+-- the path of a number stands at its place
+pub number_stands : (paths : List AttributePath) (p : AttributePath) (n : ℕ) → number_among paths p ≡ Some n → slice_get paths n ≡ Some p
+number_stands paths p n e = by (nat_lt (position_or_len (same_path p) paths) (length paths)) refl e
+  where
+    by : (b : Bool) → nat_lt (position_or_len (same_path p) paths) (length paths) ≡ b → cond b (Some (position_or_len (same_path p) paths)) None ≡ Some n → slice_get paths n ≡ Some p
+    by true is e = let same : position_or_len (same_path p) paths ≡ n = cc in subst (λ i. slice_get paths i ≡ Some p) same (place_stands paths p (ltb-true _ _ is))
+    by false is e = absurd (cc)
+
+pub place_within : (paths : List AttributePath) (p : AttributePath) → position_or_len (same_path p) paths ≤ length paths
+place_within [] p = omega arith
+place_within (q ∷ qs) p = by (same_path p q) (place_within qs p)
+  where
+    by : (b : Bool) → position_or_len (same_path p) qs ≤ length qs → cond (not b) (1 + position_or_len (same_path p) qs) 0 ≤ suc (length qs)
+    by true h = omega arith
+    by false h = omega (arith, h)
+
+-- a number is a path's place, and a path without one has the place behind all
+pub number_place : (paths : List AttributePath) (p : AttributePath) (n : ℕ) → number_among paths p ≡ Some n → (position_or_len (same_path p) paths ≡ n) × (n < length paths)
+number_place paths p n e = by (nat_lt (position_or_len (same_path p) paths) (length paths)) refl e
+  where
+    by : (b : Bool) → nat_lt (position_or_len (same_path p) paths) (length paths) ≡ b → cond b (Some (position_or_len (same_path p) paths)) None ≡ Some n → (position_or_len (same_path p) paths ≡ n) × (n < length paths)
+    by true is e = let same : position_or_len (same_path p) paths ≡ n = cc in (same, omega (arith, same, ltb-true _ _ is))
+    by false is e = absurd (cc)
+
+pub no_number : (paths : List AttributePath) (p : AttributePath) → number_among paths p ≡ None → position_or_len (same_path p) paths ≡ length paths
+no_number paths p e = by (nat_lt (position_or_len (same_path p) paths) (length paths)) refl e
+  where
+    by : (b : Bool) → nat_lt (position_or_len (same_path p) paths) (length paths) ≡ b → cond b (Some (position_or_len (same_path p) paths)) None ≡ None → position_or_len (same_path p) paths ≡ length paths
+    by true is e = absurd (cc)
+    by false is e = omega (arith, ltb-false _ _ is, place_within paths p)
+
+-- a place before the end is a number
+pub place_number : (paths : List AttributePath) (p : AttributePath) → position_or_len (same_path p) paths < length paths → number_among paths p ≡ Some (position_or_len (same_path p) paths)
+place_number paths p h = rw (lt-ltb _ _ h) refl
+
+pub end_number : (paths : List AttributePath) (p : AttributePath) → position_or_len (same_path p) paths ≡ length paths → number_among paths p ≡ None
+end_number paths p h = by (nat_lt (position_or_len (same_path p) paths) (length paths)) refl
+  where
+    by : (b : Bool) → nat_lt (position_or_len (same_path p) paths) (length paths) ≡ b → cond b (Some (position_or_len (same_path p) paths)) None ≡ None
+    by true is = absurd (omega (arith, ltb-true _ _ is, h))
+    by false is = refl

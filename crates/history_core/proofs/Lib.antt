@@ -1,0 +1,10 @@
+pub mod Pushed
+pub mod Times
+pub mod Closing
+pub mod Entries
+pub mod Keeping
+pub mod Standing
+pub mod Answering
+pub mod Lawful
+pub mod Numbers
+pub mod Agreement

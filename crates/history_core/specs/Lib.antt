@@ -1,0 +1,7 @@
+pub mod Changes
+pub mod Answers
+pub mod Closed
+pub mod Intervals
+pub mod Stands
+pub mod Codes
+pub mod Agreement

@@ -1,0 +1,210 @@
+//! The history of attribute values, built step by step.
+ghost use Rattle.std.specs.Prelude.{◌≡◌, ◌<◌, ◌≤◌, ◌++◌, ◌∷◌, [], List, length, IfOk, OnOk, OnErr};
+ghost use Rattle.kernel_provider.specs.declared.step.Step.{Step};
+ghost use Rattle.history_core.specs.Stands.{Stands, CanFollow};
+ghost use Rattle.history_core.specs.Answers.{answer_after};
+ghost use Rattle.history_core.specs.Intervals.{parts_of, taken, value_in};
+ghost use Rattle.history_core.specs.declared.question.Answer.TheVariants.{State, NotYet};
+ghost use Rattle.trace_types.specs.declared.value.Value.{Value};
+
+use crate::closed::{Interval, Since, change, value_held};
+use crate::question::Answer;
+use attribute_tree::Attributes;
+use kernel_provider::Step;
+use std::alloc::Global;
+use std::marker::Model;
+use trace_types::{OutOfMemory, Path, TIME_END, Value};
+
+/// The values of attributes up to a built end. Contracts see the paths, the closed intervals as a
+/// map from number and start to end and value, the open intervals by number, the number of steps
+/// and the built end, in ns.
+#[derive(Debug, Drop)]
+pub struct History {
+    attributes: Attributes,
+    closed: Vec<Interval>,
+    opened: Vec<Option<Since>>,
+    count: u64,
+    built: u64,
+}
+
+impl Model for History {
+    ghost use Rattle.history_core.specs.Stands.{Kept, kept_of};
+    ghost use Rattle.history_core.specs.Intervals.{AreKept};
+    ghost use Rattle.history_core.specs.Codes.{kept_code};
+
+    ghost Value = { Kept };
+
+    ghost coded = { kept_code };
+
+    ghost view = { λ h. kept_of h.attributes.paths h.closed.items h.opened.items h.count h.built };
+
+    ghost invariant = { λ h. AreKept h.attributes.paths h.closed.items h.opened.items h.built };
+}
+
+impl History {
+    /// A history of no step. The only error is want of memory.
+    pub fn new(alloc: Global) -> Result<History, OutOfMemory>
+        ensures { IfOk result (λ history. Stands [] history) }
+    {
+        Ok(History {
+            attributes: Attributes::new(alloc),
+            closed: Vec::new(alloc),
+            opened: Vec::new(alloc),
+            count: 0,
+            built: 0,
+        })
+    }
+
+    /// Takes a step that can follow those that were taken. At want of memory nothing has changed.
+    pub fn apply(&mut self, step: Step) -> Result<(), OutOfMemory>
+        requires { CanFollow self.old.paths self.old.built step }
+        ensures stands { OnOk result ((steps : List Step) → Stands steps self.old → Stands (steps ++ step ∷ []) self.new) }
+        ensures err { OnErr result (self.new ≡ self.old) }
+    {
+        if self.count == u64::MAX {
+            return Err(OutOfMemory);
+        }
+        take(
+            &mut self.attributes,
+            &mut self.closed,
+            &mut self.opened,
+            &mut self.built,
+            &step,
+        )?;
+        self.count += 1;
+        Ok(())
+    }
+
+    /// The value of an attribute at an instant, in ns. It takes no memory.
+    pub fn answer(&self, t: u64, path: Path) -> Answer
+        ensures not_yet { self.now.built ≤ t → result ≡ NotYet self.now.built }
+        ensures state { t < self.now.built → (value : Value) × (result ≡ State value) }
+        ensures stands { (steps : List Step) → Stands steps self.now → result ≡ answer_after steps t path }
+    {
+        if t >= self.built {
+            return Answer::NotYet { built: self.built };
+        }
+        let Some(number) = self.attributes.find(path) else {
+            return Answer::State(Value::Null);
+        };
+        Answer::State(value_at(&self.closed, &self.opened, number, t))
+    }
+
+    /// The number of steps that were taken.
+    pub fn count(&self) -> u64
+        ensures { result ≡ self.now.count }
+    {
+        self.count
+    }
+
+    /// The time up to which the history is built, in ns.
+    pub fn built(&self) -> u64
+        ensures { result ≡ self.now.built }
+    {
+        self.built
+    }
+}
+
+// Takes a step, or leaves all as it is at want of memory.
+fn take(
+    attributes: &mut Attributes,
+    closed: &mut Vec<Interval>,
+    opened: &mut Vec<Option<Since>>,
+    built: &mut u64,
+    step: &Step,
+) -> Result<(), OutOfMemory>
+    requires places { length opened.old.items ≡ length attributes.old.paths }
+    requires follows { CanFollow attributes.old.paths built.old step.now }
+    ensures ok { OnOk result (parts_of attributes.new.paths closed.new.items opened.new.items built.new ≡ taken (parts_of attributes.old.paths closed.old.items opened.old.items built.old) step.now) }
+    ensures err { OnErr result (parts_of attributes.new.paths closed.new.items opened.new.items built.new ≡ parts_of attributes.old.paths closed.old.items opened.old.items built.old) }
+{
+    match *step {
+        Step::Advance(t) => *built = t,
+        Step::Add(path) => {
+            opened.reserve(1)?;
+            attributes.add(path)?;
+            opened.push_reserved(None);
+        }
+        Step::Change { t, number, value } => {
+            let since = Since { start: t, value };
+            return change(closed, opened, number, &since);
+        }
+        Step::Finish => *built = TIME_END,
+    }
+    Ok(())
+}
+
+// The value of a number at an instant.
+fn value_at(closed: &[Interval], opened: &[Option<Since>], number: u32, t: u64) -> Value
+    requires { number < length opened.now }
+    ensures { result ≡ value_in closed.now opened.now number t }
+{
+    match &opened[number as usize] {
+        Some(since) if since.start <= t => since.value,
+        _ => value_held(closed, number, t),
+    }
+}
+
+#[cfg(test)]
+mod tests {
+    use super::*;
+    use crate::whole::history_of;
+    use std::test::Fail;
+    use trace_types::{Comm, Event, KernelEvent, Merged, read_comm};
+
+    // A switch on processor 0 of host 0.
+    fn switch(key: u64, prev: (u32, i64, Comm), next: (u32, Comm)) -> Merged
+        ensures { result.key ≡ key }
+    {
+        Merged {
+            key,
+            event: Event {
+                time: key,
+                host: 0,
+                cpu: 0,
+                kind: KernelEvent::Switch {
+                    prev_state: prev.1,
+                    prev_tid: prev.0,
+                    next_tid: next.0,
+                    prev_prio: 20,
+                    next_prio: 20,
+                    prev_comm: prev.2,
+                    next_comm: next.1,
+                },
+            },
+        }
+    }
+
+    // Numbers 0, 3 and 7 are the status of the idle thread, that of bash, and the processor's thread.
+    #[test]
+    fn a_change_closes_the_interval_before(rt: HostRuntime) -> Result<(), Fail> {
+        let (Some(idle), Some(bash)) = (read_comm(b"swapper/0"), read_comm(b"bash")) else {
+            panic!(rt; "two names");
+        };
+        let there = switch(100, (0, 0, idle), (7, bash));
+        let back = switch(250, (7, 1, bash), (0, idle));
+        let intervals = history_of(rt.alloc(), &[there, back])?.closed;
+        let interval = |number, value| Interval {
+            number,
+            start: 100,
+            end: 249,
+            value: Value::Int(value),
+        };
+        assert_eq!(rt; intervals.len(), 3);
+        assert_eq!(rt; intervals[0], interval(3, 1));
+        assert_eq!(rt; intervals[1], interval(0, 2));
+        assert_eq!(rt; intervals[2], interval(7, 7));
+        Ok(())
+    }
+
+    #[test]
+    fn changes_at_one_instant_close_nothing(rt: HostRuntime) -> Result<(), Fail> {
+        let (Some(idle), Some(bash)) = (read_comm(b"swapper/0"), read_comm(b"bash")) else {
+            panic!(rt; "two names");
+        };
+        let there = switch(100, (0, 0, idle), (7, bash));
+        let further = switch(100, (7, 1, bash), (8, idle));
+        assert!(rt; history_of(rt.alloc(), &[there, further])?.closed.is_empty());
+        Ok(())
+    }
+}

@@ -1,0 +1,11 @@
+//! The history of attribute values: closed and open intervals, and what they answer.
+#![tactic(auto)]
+
+mod closed;
+mod history;
+mod question;
+mod whole;
+
+pub use history::History;
+pub use question::{Answer, Asked, Question};
+pub use whole::history_of;

@@ -1,0 +1,101 @@
+//! Reading the files that a command names.
+ghost use Rattle.std.specs.Prelude.{◌≡◌, ◌≤◌, [], length, IfOk, IfErr, IfSome};
+ghost use Rattle.std.specs.List.{AllByRecursion};
+ghost use Rattle.ht_outside.specs.Files.{bytes_of};
+ghost use Rattle.history_core.specs.Agreement.{IsMerge};
+ghost use Rattle.hosttrace.specs.Inputs.{LIST_LIMIT, IsList, AreAsked, FailsBy, FileRefuses, ListRefuses, QuestionsRefuse};
+ghost use Rattle.hosttrace.specs.Questions.{IsQuestion};
+
+use crate::questions::{QuestionsError, is_crowded, read_questions};
+use crate::reading::{ReadError, read_file};
+use crate::status::{Limit, ListFile, Refusal, Status};
+use event_list::{ListError, MergedTrace, read_list};
+use history_core::Question;
+use ht_outside::Store;
+use std::alloc::Global;
+use trace_types::Text;
+
+impl From<ListError> for Status {
+    ghost use Rattle.std.specs.Prelude.{◌≡◌};
+    ghost use Rattle.hosttrace.specs.Statuses.{list_status};
+
+    ghost from_gives = { λ error status. status ≡ list_status error };
+
+    fn from(error: ListError) -> Status {
+        match error {
+            ListError::BadLine { line } => {
+                let file = ListFile::Events;
+                Status::Refused(Refusal::BadList { file, line })
+            }
+            ListError::OutOfMemory => Status::NoMemory,
+        }
+    }
+}
+
+impl From<QuestionsError> for Status {
+    ghost use Rattle.std.specs.Prelude.{◌≡◌};
+    ghost use Rattle.hosttrace.specs.Statuses.{questions_status};
+
+    ghost from_gives = { λ error status. status ≡ questions_status error };
+
+    fn from(error: QuestionsError) -> Status {
+        match error {
+            QuestionsError::BadLine { line } => {
+                let file = ListFile::Questions;
+                Status::Refused(Refusal::BadList { file, line })
+            }
+            QuestionsError::OutOfMemory => Status::NoMemory,
+        }
+    }
+}
+
+/// The events of an event list, or the status that tells why there are none.
+pub fn read_events<S: Store>(
+    alloc: Global,
+    file: &Text,
+    store: &mut S,
+) -> Result<MergedTrace, Status>
+    ensures list { IfOk result (λ trace. IfSome (S.holds store.old) (λ files. IsList (bytes_of files [] file.now) trace.events.items)) }
+    ensures merge { IfOk result (λ trace. IsMerge trace.events.items) }
+    ensures fails { IfErr result (λ status. FailsBy (λ files refusal. ListRefuses (bytes_of files [] file.now) refusal) (S.holds store.old) (S.faults store.old) (S.faults store.new) status) }
+    ensures grows { S.faults store.old ≤ S.faults store.new }
+    ensures keeps { S.holds store.new ≡ S.holds store.old }
+{
+    let bytes = read_bytes(alloc, file, store)?;
+    Ok(read_list(alloc, &bytes)?)
+}
+
+/// The questions of a question file, or the status that tells why there are none.
+pub fn read_asked<S: Store>(
+    alloc: Global,
+    file: &Text,
+    store: &mut S,
+) -> Result<Vec<Question>, Status>
+    ensures asked { IfOk result (λ questions. IfSome (S.holds store.old) (λ files. AreAsked (bytes_of files [] file.now) questions.items)) }
+    ensures each { IfOk result (λ questions. AllByRecursion IsQuestion questions.items) }
+    ensures fails { IfErr result (λ status. FailsBy (λ files refusal. QuestionsRefuse (bytes_of files [] file.now) refusal) (S.holds store.old) (S.faults store.old) (S.faults store.new) status) }
+    ensures keeps { S.holds store.new ≡ S.holds store.old }
+{
+    let bytes = read_bytes(alloc, file, store)?;
+    if is_crowded(&bytes) {
+        let what = Limit::Questions;
+        return Err(Status::Refused(Refusal::TooLarge { what }));
+    }
+    Ok(read_questions(alloc, &bytes)?)
+}
+
+// The bytes of a file, or the status that tells why it wasn't read.
+fn read_bytes<S: Store>(alloc: Global, file: &Text, store: &mut S) -> Result<Vec<u8>, Status>
+    ensures bytes { IfOk result (λ v. IfSome (S.holds store.old) (λ files. v.items ≡ bytes_of files [] file.now)) }
+    ensures small { IfOk result (λ v. length v.items ≤ LIST_LIMIT) }
+    ensures fails { IfErr result (λ status. FailsBy (λ files refusal. FileRefuses (bytes_of files [] file.now) refusal) (S.holds store.old) (S.faults store.old) (S.faults store.new) status) }
+    ensures grows { S.faults store.old ≤ S.faults store.new }
+    ensures keeps { S.holds store.new ≡ S.holds store.old }
+{
+    match read_file(alloc, store, b"", file.as_bytes()) {
+        Ok(bytes) => Ok(bytes),
+        Err(ReadError::Fault) => Err(Status::ReadFault),
+        Err(ReadError::TooLarge) => Err(Status::Refused(Refusal::TooLarge { what: Limit::File })),
+        Err(ReadError::OutOfMemory) => Err(Status::NoMemory),
+    }
+}
