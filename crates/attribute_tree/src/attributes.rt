@@ -1,29 +1,39 @@
-//! Paths and their numbers.
-ghost use Rattle.std.specs.Prelude.{◌≡◌, ◌<◌, ◌++◌, ◌∷◌, [], Some, true, length, slice_get, OnOk, OnErr, IfOk, IfSome, IsOk};
+//! Paths and their numbers, and the tree of their nodes.
+ghost use Rattle.std.specs.Prelude.{◌≡◌, ◌<◌, ◌≤◌, ◌++◌, ◌∷◌, [], Some, true, length, slice_get, OnOk, OnErr, IfOk, IfSome, IsOk};
 ghost use Rattle.attribute_tree.specs.Numbered.{number_among, IsNew};
+ghost use Rattle.attribute_tree.specs.Nodes.{children_of, nodes_of, prefixes_of, rooted, with_nodes};
+ghost use Rattle.attribute_tree.specs.declared.prefix.Prefix.TheVariants as prefixes;
 
+use crate::children::Children;
+use crate::nodes::Nodes;
+use crate::prefix::Prefix;
 use indexmap::IndexSet;
 use std::alloc::Global;
 use std::marker::Model;
 use trace_types::{OutOfMemory, Path};
 
-/// Paths that are numbered from 0 in the order in which they were added. Contracts see the list
-/// of paths, and whether there is room for one more.
+// A path has a node for each of its four segments, and the first path makes the root, too.
+const NODES_A_PATH: u32 = 5;
+
+/// Paths that are numbered from 0 in the order in which they were added, and the tree of their
+/// nodes. Contracts see the list of paths, and whether there is room for one more.
 #[derive(Debug, Drop)]
 pub struct Attributes {
     paths: IndexSet<Path>,
+    nodes: Nodes,
 }
 
 impl Model for Attributes {
-    ghost use Rattle.std.specs.Prelude.{ℕ, ◌<◌, ◌^◌, ◌&&◌, nat_lt, length};
+    ghost use Rattle.std.specs.Prelude.{◌≡◌, ℕ, ◌<◌, ◌^◌, ◌&&◌, nat_lt, nat_le, length};
     ghost use Rattle.indexmap.specs.IndexSet.{spare};
     ghost use Rattle.attribute_tree.specs.Numbered.{Numbered};
+    ghost use Rattle.attribute_tree.specs.Nodes.{kept_nodes};
 
     ghost Value = { Numbered };
 
-    ghost view = { λ a. record { paths = a.paths.keys; has_room = nat_lt 0 (spare a.paths) && nat_lt (length a.paths.keys) 4294967295 } };
+    ghost view = { λ a. record { paths = a.paths.keys; has_room = nat_lt 0 (spare a.paths) && (nat_lt (length a.paths.keys) 4294967295 && nat_le 5 a.nodes.room) } };
 
-    ghost invariant = { λ a. length a.paths.keys < 2 ^ 32 };
+    ghost invariant = { λ a. (length a.paths.keys < 2 ^ 32) × (a.nodes.nodes ≡ kept_nodes a.paths.keys) };
 }
 
 impl Attributes {
@@ -33,6 +43,7 @@ impl Attributes {
     {
         Attributes {
             paths: IndexSet::new(alloc),
+            nodes: Nodes::new(alloc),
         }
     }
 
@@ -44,6 +55,7 @@ impl Attributes {
         if self.paths.len() >= u32::MAX as usize {
             return Err(OutOfMemory);
         }
+        self.nodes.reserve(NODES_A_PATH)?;
         self.paths.reserve(1)?;
         Ok(())
     }
@@ -60,7 +72,9 @@ impl Attributes {
         if self.paths.len() >= u32::MAX as usize {
             return Err(OutOfMemory);
         }
+        self.nodes.reserve(NODES_A_PATH)?;
         let (number, _) = self.paths.insert_full(path)?;
+        add_nodes(&mut self.nodes, path);
         Ok(number as u32)
     }
 
@@ -92,5 +106,39 @@ impl Attributes {
         ensures { slice_get self.now.paths number ≡ Some result }
     {
         self.paths[number as usize]
+    }
+
+    /// The children of a node, in the order of their making. Node 0 is the root, which is there
+    /// without a path; then come the nodes that each path made, the shortest first. A number that is
+    /// no node's has no children. It takes no memory.
+    pub fn children(&self, node: u32) -> Children<'_>
+        ensures { result ≡ children_of (nodes_of self.now.paths) node }
+    {
+        Children::new(&self.nodes, node)
+    }
+}
+
+// Makes a node for each front of a path that has none yet, and the root where there is none.
+fn add_nodes(nodes: &mut Nodes, path: Path)
+    requires root { slice_get (rooted nodes.old.nodes) 0 ≡ Some prefixes.Root }
+    requires room { 5 ≤ nodes.old.room }
+    ensures { nodes.new.nodes ≡ with_nodes (rooted nodes.old.nodes) (prefixes_of path) }
+{
+    if nodes.is_empty() {
+        nodes.add_root();
+    }
+    match path {
+        Path::Cpu { host, cpu, .. } => {
+            let above = nodes.add(0, Prefix::Host(host));
+            let above = nodes.add(above, Prefix::Cpus(host));
+            let above = nodes.add(above, Prefix::Cpu { host, cpu });
+            nodes.add(above, Prefix::Leaf(path));
+        }
+        Path::Thread { host, thread, .. } => {
+            let above = nodes.add(0, Prefix::Host(host));
+            let above = nodes.add(above, Prefix::Threads(host));
+            let above = nodes.add(above, Prefix::Thread { host, thread });
+            nodes.add(above, Prefix::Leaf(path));
+        }
     }
 }

@@ -2,5 +2,9 @@
 #![tactic(auto)]
 
 mod attributes;
+mod children;
+mod nodes;
+mod prefix;
 
 pub use attributes::Attributes;
+pub use children::Children;

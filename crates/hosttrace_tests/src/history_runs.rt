@@ -7,6 +7,7 @@ use event_list::read_list;
 use history_core::{Answer, History};
 use kernel_provider::Provider;
 use std::alloc::AllocGlobal;
+use std::process::Abort;
 use std::test::Fail;
 use trace_types::{CpuLeaf, Merged, Path, ThreadKey, ThreadLeaf, Value};
 
@@ -44,15 +45,48 @@ fn events_of<R: AllocGlobal>(rt: &R, list: &[u8]) -> Result<Vec<Merged>, Fail>
     Ok(read_list(rt.alloc(), list)?.events)
 }
 
+// Adds a path, which must be new.
+fn add_new<R: Abort>(rt: &R, attributes: &mut Attributes, path: Path) -> Result<u32, Fail> {
+    let None = attributes.find(path) else {
+        panic!(rt; "a new path");
+    };
+    Ok(attributes.add(path)?)
+}
+
+// The path of a number, which must be one.
+fn path_of<R: Abort>(rt: &R, attributes: &Attributes, number: u32) -> Path {
+    assert!(rt; number < attributes.len());
+    attributes.path_of(number)
+}
+
 #[test]
 fn paths_have_numbers(rt: HostRuntime) -> Result<(), Fail> {
     let mut attributes = Attributes::new(rt.alloc());
-    assert_eq!(rt; attributes.find(BASH), None);
-    assert_eq!(rt; attributes.add(BASH)?, 0);
-    assert_eq!(rt; attributes.add(CPU_0)?, 1);
+    assert_eq!(rt; add_new(&rt, &mut attributes, BASH)?, 0);
+    assert_eq!(rt; add_new(&rt, &mut attributes, CPU_0)?, 1);
     assert_eq!(rt; attributes.len(), 2);
     assert_eq!(rt; attributes.find(CPU_0), Some(1));
-    assert_eq!(rt; attributes.path_of(0), BASH);
+    assert_eq!(rt; path_of(&rt, &attributes, 0), BASH);
+    Ok(())
+}
+
+// Node 0 is the root. The first path makes nodes 1 to 4: its host, the host's threads, the thread and
+// the leaf. The second makes 5 to 7: the host's processors, the processor and the leaf.
+#[test]
+fn nodes_have_children(rt: HostRuntime) -> Result<(), Fail> {
+    let mut attributes = Attributes::new(rt.alloc());
+    add_new(&rt, &mut attributes, BASH)?;
+    add_new(&rt, &mut attributes, CPU_0)?;
+    let mut of_root = attributes.children(0);
+    assert_eq!(rt; of_root.next(), Some(1));
+    assert_eq!(rt; of_root.next(), None);
+    let mut of_host = attributes.children(1);
+    assert_eq!(rt; of_host.next(), Some(2));
+    assert_eq!(rt; of_host.next(), Some(5));
+    assert_eq!(rt; of_host.next(), None);
+    assert_eq!(rt; of_host.next(), None);
+    assert_eq!(rt; attributes.children(6).next(), Some(7));
+    assert_eq!(rt; attributes.children(7).next(), None);
     Ok(())
 }
 

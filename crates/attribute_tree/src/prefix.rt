@@ -1,0 +1,14 @@
+//! The fronts of paths: the nodes of the tree of attributes.
+use trace_types::{Path, ThreadKey};
+
+/// The first so many segments of a path, from none to all four.
+#[derive(Clone, Copy, Debug, PartialEq, Eq, Hash)]
+pub enum Prefix {
+    Root,
+    Host(u32),
+    Cpus(u32),
+    Threads(u32),
+    Cpu { host: u32, cpu: u32 },
+    Thread { host: u32, thread: ThreadKey },
+    Leaf(Path),
+}
