@@ -1,5 +1,5 @@
 //! Paths and their numbers, and the tree of their nodes.
-ghost use Rattle.std.specs.Prelude.{◌≡◌, ◌<◌, ◌≤◌, ◌++◌, ◌∷◌, [], Some, true, length, slice_get, OnOk, OnErr, IfOk, IfSome, IsOk};
+ghost use Rattle.std.specs.Prelude.{◌≡◌, ◌<◌, ◌≤◌, ◌↔◌, ◌++◌, ◌∷◌, [], Some, true, IsTrue, length, slice_get, OnOk, OnErr, IfOk, IfSome, IsOk};
 ghost use Rattle.attribute_tree.specs.Numbered.{number_among, IsNew};
 ghost use Rattle.attribute_tree.specs.Nodes.{children_of, nodes_of, prefixes_of, rooted, with_nodes};
 ghost use Rattle.attribute_tree.specs.declared.prefix.Prefix.TheVariants as prefixes;
@@ -95,7 +95,7 @@ impl Attributes {
 
     /// Whether no path is held.
     pub fn is_empty(&self) -> bool
-        ensures { result ≡ true → self.now.paths ≡ [] }
+        ensures { IsTrue result ↔ (length self.now.paths ≡ 0) }
     {
         self.paths.is_empty()
     }

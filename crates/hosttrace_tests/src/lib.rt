@@ -8,6 +8,8 @@ mod bad_lists;
 #[cfg(test)]
 mod bad_questions;
 #[cfg(test)]
+mod faults;
+#[cfg(test)]
 mod folders;
 #[cfg(test)]
 mod harness;

@@ -1,0 +1,5 @@
+//! Tests of the crates that read traces.
+#![tactic(auto)]
+
+#[cfg(test)]
+mod metadata_packets;

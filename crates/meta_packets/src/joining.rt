@@ -1,0 +1,77 @@
+//! Joining the texts of metadata packets.
+ghost use Rattle.std.specs.Prelude.{◌≡◌, ◌<◌, ◌≤◌, ℕ, List, length, IfOk, None, Err};
+ghost use Rattle.meta_packets.specs.Packets.{IsText, IsJoin, IsRefused, IsPackets, IsPacket, content_of, behind, cause_of};
+ghost use Rattle.meta_packets.specs.declared.header.MetaPacketCause.{MetaPacketCause};
+ghost use Rattle.meta_packets.specs.declared.header.Order.{Order};
+ghost use Rattle.meta_packets.specs.declared.joining.MetaPacketError.TheVariants.{At};
+
+use crate::header::{HEADER, MetaPacketCause, Order, cause_of, sizes_of, uuid_of};
+use std::alloc::{AllocError, Global};
+
+/// Why the packets of a metadata file have no text. The offset of the packet is in bytes.
+#[derive(Clone, Copy, Debug, PartialEq, Eq)]
+pub enum MetaPacketError {
+    At { offset: u64, cause: MetaPacketCause },
+    OutOfMemory,
+}
+
+impl From<AllocError> for MetaPacketError {
+    ghost use Rattle.std.specs.Prelude.{◌≡◌};
+    ghost use Rattle.meta_packets.specs.declared.joining.MetaPacketError.TheVariants as variant;
+
+    ghost from_gives = { λ _ e. e ≡ variant.OutOfMemory };
+
+    fn from(_error: AllocError) -> MetaPacketError {
+        MetaPacketError::OutOfMemory
+    }
+}
+
+/// The text of a metadata file: its packets' contents, joined, or the file itself where it doesn't
+/// begin with the magic number of a packet. The first packet that fails a check is refused.
+pub fn join(alloc: Global, bytes: &[u8]) -> Result<Vec<u8>, MetaPacketError>
+    ensures text { IfOk result (λ text. IsText bytes.now text.items) }
+    ensures refused { (offset : ℕ) (cause : MetaPacketCause) → result ≡ Err (At offset cause) → (order : Order) × IsRefused order bytes.now offset cause }
+{
+    match Order::of(bytes) {
+        Some(order) => join_packets(alloc, order, bytes),
+        None => {
+            let mut text = Vec::new(alloc);
+            text.extend_from_slice(bytes)?;
+            Ok(text)
+        }
+    }
+}
+
+// The joined contents of packets of one byte order.
+fn join_packets(alloc: Global, order: Order, bytes: &[u8]) -> Result<Vec<u8>, MetaPacketError>
+    requires { IsPackets order bytes.now }
+    ensures text { IfOk result (λ text. IsJoin order bytes.now text.items) }
+    ensures refused { (offset : ℕ) (cause : MetaPacketCause) → result ≡ Err (At offset cause) → IsRefused order bytes.now offset cause }
+{
+    let uuid = uuid_of(bytes);
+    let mut text = Vec::new(alloc);
+    let mut rest = bytes;
+    while !rest.is_empty() {
+        if let Some(cause) = cause_of(order, uuid, rest) {
+            let offset = (bytes.len() - rest.len()) as u64;
+            return Err(MetaPacketError::At { offset, cause });
+        }
+        let (content, after) = cut(order, rest);
+        text.extend_from_slice(content)?;
+        rest = after;
+    }
+    Ok(text)
+}
+
+// The text of the packet at the front, which passes all checks, and what is left behind it.
+fn cut(order: Order, rest: &[u8]) -> (&[u8], &[u8])
+    requires { (uuid : List ℕ) × (cause_of order uuid rest.now ≡ None) }
+    ensures content { result.0.now ≡ content_of order rest.now }
+    ensures behind { result.1.now ≡ behind order rest.now }
+    ensures shorter { length result.1.now < length rest.now }
+{
+    let sizes = sizes_of(order, rest);
+    let content = sizes.content as usize / 8;
+    let packet = sizes.packet as usize / 8;
+    (&rest[HEADER..content], &rest[packet..])
+}

@@ -1,0 +1,8 @@
+//! The packets of a metadata file, and the text that they carry (CTF 1.8, section 7.1).
+#![tactic(auto)]
+
+mod header;
+mod joining;
+
+pub use header::MetaPacketCause;
+pub use joining::{MetaPacketError, join};
