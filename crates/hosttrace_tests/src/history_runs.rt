@@ -4,7 +4,7 @@ ghost use Rattle.history_core.specs.Agreement.{IsMerge};
 
 use attribute_tree::Attributes;
 use event_list::read_list;
-use history_core::{Answer, History};
+use history_core::{Answer, Asked, History};
 use kernel_provider::Provider;
 use std::alloc::AllocGlobal;
 use std::process::Abort;
@@ -22,6 +22,16 @@ const BASH: Path = Path::Thread {
     thread: ThreadKey::Tid(7),
     leaf: ThreadLeaf::Status,
 };
+
+// Processor 0 goes from idle to bash at 100, and back at 250.
+const TWO_SWITCHES: &[u8] = b"hosttrace events 1\n\
+    100 0 0 100 switch 0 swapper/0 20 0 7 bash 20\n\
+    250 0 0 250 switch 7 bash 20 1 0 swapper/0 20\n";
+
+// Two switches at one instant: bash gives way to vi.
+const ONE_INSTANT: &[u8] = b"hosttrace events 1\n\
+    100 0 0 100 switch 0 swapper/0 20 0 7 bash 20\n\
+    100 0 0 100 switch 7 bash 20 1 8 vi 20\n";
 
 // The history of the first steps of a merge, at most so many.
 fn built<R: AllocGlobal>(rt: &R, events: &[Merged], steps: u32) -> Result<History, Fail>
@@ -45,6 +55,22 @@ fn events_of<R: AllocGlobal>(rt: &R, list: &[u8]) -> Result<Vec<Merged>, Fail>
     Ok(read_list(rt.alloc(), list)?.events)
 }
 
+// What the history of a list's first steps answers, and how many steps it took.
+fn asked<R: AllocGlobal>(
+    rt: &R,
+    list: &[u8],
+    steps: u32,
+    t: u64,
+    path: Path,
+) -> Result<Asked, Fail> {
+    let events = events_of(rt, list)?;
+    let history = built(rt, &events, steps)?;
+    Ok(Asked {
+        answer: history.answer(t, path),
+        count: history.count(),
+    })
+}
+
 // Adds a path, which must be new.
 fn add_new<R: Abort>(rt: &R, attributes: &mut Attributes, path: Path) -> Result<u32, Fail> {
     let None = attributes.find(path) else {
@@ -53,20 +79,36 @@ fn add_new<R: Abort>(rt: &R, attributes: &mut Attributes, path: Path) -> Result<
     Ok(attributes.add(path)?)
 }
 
-// The path of a number, which must be one.
-fn path_of<R: Abort>(rt: &R, attributes: &Attributes, number: u32) -> Path {
-    assert!(rt; number < attributes.len());
-    attributes.path_of(number)
+// The two paths.
+fn two_paths<R: AllocGlobal + Abort>(rt: &R) -> Result<Attributes, Fail> {
+    let mut attributes = Attributes::new(rt.alloc());
+    add_new(rt, &mut attributes, BASH)?;
+    add_new(rt, &mut attributes, CPU_0)?;
+    Ok(attributes)
+}
+
+// The children of a node of two paths, at most two of them.
+fn children<R: AllocGlobal + Abort>(rt: &R, node: u32) -> Result<[Option<u32>; 3], Fail> {
+    let attributes = two_paths(rt)?;
+    let mut children = attributes.children(node);
+    Ok([children.next(), children.next(), children.next()])
 }
 
 #[test]
 fn paths_have_numbers(rt: HostRuntime) -> Result<(), Fail> {
     let mut attributes = Attributes::new(rt.alloc());
-    assert_eq!(rt; add_new(&rt, &mut attributes, BASH)?, 0);
-    assert_eq!(rt; add_new(&rt, &mut attributes, CPU_0)?, 1);
-    assert_eq!(rt; attributes.len(), 2);
+    let first = add_new(&rt, &mut attributes, BASH)?;
+    let second = add_new(&rt, &mut attributes, CPU_0)?;
+    assert_eq!(rt; (first, second), (0, 1));
+    Ok(())
+}
+
+#[test]
+fn numbers_have_paths(rt: HostRuntime) -> Result<(), Fail> {
+    let attributes = two_paths(&rt)?;
     assert_eq!(rt; attributes.find(CPU_0), Some(1));
-    assert_eq!(rt; path_of(&rt, &attributes, 0), BASH);
+    assert!(rt; attributes.len() == 2);
+    assert_eq!(rt; attributes.path_of(0), BASH);
     Ok(())
 }
 
@@ -74,54 +116,85 @@ fn paths_have_numbers(rt: HostRuntime) -> Result<(), Fail> {
 // the leaf. The second makes 5 to 7: the host's processors, the processor and the leaf.
 #[test]
 fn nodes_have_children(rt: HostRuntime) -> Result<(), Fail> {
-    let mut attributes = Attributes::new(rt.alloc());
-    add_new(&rt, &mut attributes, BASH)?;
-    add_new(&rt, &mut attributes, CPU_0)?;
-    let mut of_root = attributes.children(0);
-    assert_eq!(rt; of_root.next(), Some(1));
-    assert_eq!(rt; of_root.next(), None);
-    let mut of_host = attributes.children(1);
-    assert_eq!(rt; of_host.next(), Some(2));
-    assert_eq!(rt; of_host.next(), Some(5));
-    assert_eq!(rt; of_host.next(), None);
-    assert_eq!(rt; of_host.next(), None);
-    assert_eq!(rt; attributes.children(6).next(), Some(7));
-    assert_eq!(rt; attributes.children(7).next(), None);
+    assert_eq!(rt; children(&rt, 0)?, [Some(1), None, None]);
+    assert_eq!(rt; children(&rt, 1)?, [Some(2), Some(5), None]);
+    assert_eq!(rt; children(&rt, 6)?, [Some(7), None, None]);
+    assert_eq!(rt; children(&rt, 7)?, [None, None, None]);
     Ok(())
 }
 
 // The first switch at 100 has 17 steps. The history is then built to 100, and knows no value at 100.
 #[test]
 fn after_the_first_event(rt: HostRuntime) -> Result<(), Fail> {
-    let list: &[u8] = b"hosttrace events 1\n\
-        100 0 0 100 switch 0 swapper/0 20 0 7 bash 20\n\
-        100 0 0 100 switch 7 bash 20 1 8 vi 20\n";
-    let history = built(&rt, &events_of(&rt, list)?, 17)?;
-    assert_eq!(rt; history.count(), 17);
-    assert_eq!(rt; history.built(), 100);
-    assert_eq!(rt; history.answer(100, CPU_0), Answer::NotYet { built: 100 });
-    assert_eq!(rt; history.answer(99, CPU_0), Answer::State(Value::Null));
-    let whole = built(&rt, &events_of(&rt, list)?, 100)?;
-    assert_eq!(rt; whole.answer(100, CPU_0), Answer::State(Value::Int(8)));
-    assert_eq!(rt; whole.answer(100, BASH), Answer::State(Value::Int(3)));
+    let count = 17;
+    let answer = Answer::NotYet { built: 100 };
+    assert_eq!(rt;
+        asked(&rt, ONE_INSTANT, 17, 100, CPU_0)?,
+        Asked { answer, count }
+    );
+    let answer = Answer::State(Value::Null);
+    assert_eq!(rt;
+        asked(&rt, ONE_INSTANT, 17, 99, CPU_0)?,
+        Asked { answer, count }
+    );
+    Ok(())
+}
+
+// Both switches count at 100: vi runs, and bash is blocked.
+#[test]
+fn after_both_events_of_an_instant(rt: HostRuntime) -> Result<(), Fail> {
+    let of_cpu = asked(&rt, ONE_INSTANT, 100, 100, CPU_0)?;
+    assert_eq!(rt; of_cpu.answer, Answer::State(Value::Int(8)));
+    let of_bash = asked(&rt, ONE_INSTANT, 100, 100, BASH)?;
+    assert_eq!(rt; of_bash.answer, Answer::State(Value::Int(3)));
     Ok(())
 }
 
 // The step behind the first event builds the history to 250, and ends no interval yet.
 #[test]
 fn up_to_the_second_event(rt: HostRuntime) -> Result<(), Fail> {
-    let list: &[u8] = b"hosttrace events 1\n\
-        100 0 0 100 switch 0 swapper/0 20 0 7 bash 20\n\
-        250 0 0 250 switch 7 bash 20 1 0 swapper/0 20\n";
-    let history = built(&rt, &events_of(&rt, list)?, 18)?;
-    assert_eq!(rt; history.answer(100, CPU_0), Answer::State(Value::Int(7)));
-    assert_eq!(rt; history.answer(249, BASH), Answer::State(Value::Int(1)));
-    assert_eq!(rt; history.answer(250, CPU_0), Answer::NotYet { built: 250 });
-    let whole = built(&rt, &events_of(&rt, list)?, 100)?;
-    assert_eq!(rt; whole.count(), 24);
-    assert_eq!(rt; whole.built(), 1 << 62);
-    assert_eq!(rt; whole.answer(249, BASH), Answer::State(Value::Int(1)));
-    assert_eq!(rt; whole.answer(250, BASH), Answer::State(Value::Int(3)));
-    assert_eq!(rt; whole.answer(250, CPU_0), Answer::State(Value::Int(0)));
+    let count = 18;
+    let answer = Answer::State(Value::Int(7));
+    assert_eq!(rt;
+        asked(&rt, TWO_SWITCHES, 18, 100, CPU_0)?,
+        Asked { answer, count }
+    );
+    let answer = Answer::State(Value::Int(1));
+    assert_eq!(rt;
+        asked(&rt, TWO_SWITCHES, 18, 249, BASH)?,
+        Asked { answer, count }
+    );
+    let answer = Answer::NotYet { built: 250 };
+    assert_eq!(rt;
+        asked(&rt, TWO_SWITCHES, 18, 250, CPU_0)?,
+        Asked { answer, count }
+    );
+    Ok(())
+}
+
+// After 24 steps all is known up to the end of all times.
+#[test]
+fn after_all_steps(rt: HostRuntime) -> Result<(), Fail> {
+    let count = 24;
+    let answer = Answer::State(Value::Int(1));
+    assert_eq!(rt;
+        asked(&rt, TWO_SWITCHES, 100, 249, BASH)?,
+        Asked { answer, count }
+    );
+    let answer = Answer::State(Value::Int(3));
+    assert_eq!(rt;
+        asked(&rt, TWO_SWITCHES, 100, 250, BASH)?,
+        Asked { answer, count }
+    );
+    let answer = Answer::State(Value::Int(0));
+    assert_eq!(rt;
+        asked(&rt, TWO_SWITCHES, 100, (1 << 62) - 1, CPU_0)?,
+        Asked { answer, count }
+    );
+    let answer = Answer::NotYet { built: 1 << 62 };
+    assert_eq!(rt;
+        asked(&rt, TWO_SWITCHES, 100, 1 << 62, CPU_0)?,
+        Asked { answer, count }
+    );
     Ok(())
 }
