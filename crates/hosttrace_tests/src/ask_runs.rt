@@ -1,20 +1,11 @@
 //! The ask command, from words to text.
 use crate::harness::run_over;
+use crate::lists::{ONE_INSTANT, TWO_SWITCHES};
 use hosttrace::Status;
 use std::alloc::AllocGlobal;
 use std::process::Abort;
 use std::str;
 use std::test::Fail;
-
-// Processor 0 goes from idle to bash at 100, and back at 250.
-const TWO_SWITCHES: &[u8] = b"hosttrace events 1\n\
-    100 0 0 100 switch 0 swapper/0 20 0 7 bash 20\n\
-    250 0 0 250 switch 7 bash 20 1 0 swapper/0 20\n";
-
-// Two switches at one instant: bash gives way to vi.
-const ONE_INSTANT: &[u8] = b"hosttrace events 1\n\
-    100 0 0 100 switch 0 swapper/0 20 0 7 bash 20\n\
-    100 0 0 100 switch 7 bash 20 1 8 vi 20\n";
 
 // Asks these questions of a list, which must be answered by this text.
 fn answered<R: AllocGlobal + Abort>(

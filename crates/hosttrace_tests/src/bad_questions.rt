@@ -1,11 +1,10 @@
 //! Question files that break the grammar or pass a limit, and the order of refusals.
 use crate::harness::run_over;
+use crate::lists::ONE_SWITCH;
 use std::alloc::AllocGlobal;
 use std::process::Abort;
 use std::str;
 use std::test::Fail;
-
-const LIST: &[u8] = b"hosttrace events 1\n100 0 0 100 switch 0 swapper/0 20 0 7 bash 20\n";
 
 // Asks questions that must be refused with this line on the sink for errors.
 fn refused<R: AllocGlobal + Abort>(
@@ -24,8 +23,8 @@ fn refused<R: AllocGlobal + Abort>(
 
 #[test]
 fn no_question(rt: HostRuntime) -> Result<(), Fail> {
-    refused(&rt, LIST, b"", "questions line 1\n")?;
-    let ran = run_over(&rt, "ask --questions q --list a.list", &[("a.list", LIST)])?;
+    refused(&rt, ONE_SWITCH, b"", "questions line 1\n")?;
+    let ran = run_over(&rt, "ask --questions q --list a.list", &[("a.list", ONE_SWITCH)])?;
     assert_eq!(rt; ran.status.code(), 2);
     assert_eq!(rt; str::from_utf8(&ran.err)?, "questions line 1\n");
     Ok(())
@@ -33,15 +32,15 @@ fn no_question(rt: HostRuntime) -> Result<(), Fail> {
 
 #[test]
 fn line_ends(rt: HostRuntime) -> Result<(), Fail> {
-    refused(&rt, LIST, b"249 h0/Cpu/0/Thread", "questions line 1\n")?;
+    refused(&rt, ONE_SWITCH, b"249 h0/Cpu/0/Thread", "questions line 1\n")?;
     refused(
         &rt,
-        LIST,
+        ONE_SWITCH,
         b"249 h0/Cpu/0/Thread\n250 h0/Cpu/0/Thread",
         "questions line 2\n",
     )?;
-    refused(&rt, LIST, b"249 h0/Cpu/0/Thread\n\n", "questions line 2\n")?;
-    refused(&rt, LIST, b"249 h0/Cpu/0/Thread\r\n", "questions line 1\n")
+    refused(&rt, ONE_SWITCH, b"249 h0/Cpu/0/Thread\n\n", "questions line 2\n")?;
+    refused(&rt, ONE_SWITCH, b"249 h0/Cpu/0/Thread\r\n", "questions line 1\n")
 }
 
 #[test]
@@ -61,7 +60,7 @@ fn lines_that_are_no_question(rt: HostRuntime) -> Result<(), Fail> {
         b"249 h0/Thread/0/Status\n",
         b"249 h0/Thread/2147483648/Status\n",
     ] {
-        refused(&rt, LIST, line, "questions line 1\n")?;
+        refused(&rt, ONE_SWITCH, line, "questions line 1\n")?;
     }
     Ok(())
 }
@@ -74,8 +73,8 @@ fn the_order_of_refusals(rt: HostRuntime) -> Result<(), Fail> {
     for _ in 0..65_537 {
         questions.push(b'\n')?;
     }
-    refused(&rt, LIST, &questions, "too large: questions\n")?;
+    refused(&rt, ONE_SWITCH, &questions, "too large: questions\n")?;
     refused(&rt, b"", &questions, "list line 1\n")?;
     questions.pop();
-    refused(&rt, LIST, &questions, "questions line 1\n")
+    refused(&rt, ONE_SWITCH, &questions, "questions line 1\n")
 }

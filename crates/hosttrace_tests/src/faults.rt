@@ -1,4 +1,5 @@
 //! Stores and sinks that fail.
+use crate::lists::ONE_SWITCH;
 use hosttrace::{Status, run};
 use ht_outside::{MemorySink, MemoryStore, OpenGate, Sink, SinkError, Store, StoreError};
 use std::alloc::AllocGlobal;
@@ -74,8 +75,6 @@ impl Sink for NarrowSink {
     }
 }
 
-const LIST: &[u8] = b"hosttrace events 1\n100 0 0 100 switch 0 swapper/0 20 0 7 bash 20\n";
-
 const QUESTIONS: &[u8] = b"249 h0/Cpu/0/Thread\n99 h0/Cpu/0/Thread\n";
 
 const ANSWERS: &str = "249 h0/Cpu/0/Thread int 7\n99 h0/Cpu/0/Thread null\n";
@@ -93,7 +92,7 @@ fn asked<R: AllocGlobal>(
         words.push(String::from_str(alloc, word)?)?;
     }
     let mut files = MemoryStore::new(alloc);
-    files.put(b"", b"a.list", LIST)?;
+    files.put(b"", b"a.list", ONE_SWITCH)?;
     files.put(b"", b"q", QUESTIONS)?;
     let mut store = ScriptedStore {
         files,

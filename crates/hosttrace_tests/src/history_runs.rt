@@ -2,6 +2,7 @@
 ghost use Rattle.std.specs.Prelude.{IfOk};
 ghost use Rattle.history_core.specs.Agreement.{IsMerge};
 
+use crate::lists::{ONE_INSTANT, TWO_SWITCHES};
 use attribute_tree::Attributes;
 use event_list::read_list;
 use history_core::{Answer, Asked, History};
@@ -22,16 +23,6 @@ const BASH: Path = Path::Thread {
     thread: ThreadKey::Tid(7),
     leaf: ThreadLeaf::Status,
 };
-
-// Processor 0 goes from idle to bash at 100, and back at 250.
-const TWO_SWITCHES: &[u8] = b"hosttrace events 1\n\
-    100 0 0 100 switch 0 swapper/0 20 0 7 bash 20\n\
-    250 0 0 250 switch 7 bash 20 1 0 swapper/0 20\n";
-
-// Two switches at one instant: bash gives way to vi.
-const ONE_INSTANT: &[u8] = b"hosttrace events 1\n\
-    100 0 0 100 switch 0 swapper/0 20 0 7 bash 20\n\
-    100 0 0 100 switch 7 bash 20 1 8 vi 20\n";
 
 // The history of the first steps of a merge, at most so many.
 fn built<R: AllocGlobal>(rt: &R, events: &[Merged], steps: u32) -> Result<History, Fail>

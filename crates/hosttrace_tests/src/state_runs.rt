@@ -1,13 +1,9 @@
 //! The state command, from words to text.
 use crate::harness::run_on;
+use crate::lists::{ONE_INSTANT, TWO_SWITCHES};
 use hosttrace::{ListFile, Refusal, Status};
 use std::str;
 use std::test::Fail;
-
-// Processor 0 goes from idle to bash at 100, and back at 250.
-const TWO_SWITCHES: &[u8] = b"hosttrace events 1\n\
-    100 0 0 100 switch 0 swapper/0 20 0 7 bash 20\n\
-    250 0 0 250 switch 7 bash 20 1 0 swapper/0 20\n";
 
 const STATE_AT_249: &str = "h0/Cpu/0/Thread int 7\n\
     h0/Thread/0_0/Status status ready\n\
@@ -17,11 +13,6 @@ const STATE_AT_249: &str = "h0/Cpu/0/Thread int 7\n\
     h0/Thread/7/Name comm bash\n\
     h0/Thread/7/Cpu int 0\n\
     h0/Thread/7/Prio int 20\n";
-
-// Two switches at one instant: bash gives way to vi.
-const ONE_INSTANT: &[u8] = b"hosttrace events 1\n\
-    100 0 0 100 switch 0 swapper/0 20 0 7 bash 20\n\
-    100 0 0 100 switch 7 bash 20 1 8 vi 20\n";
 
 const EXCHANGED: &[u8] = b"hosttrace events 1\n\
     250 0 0 250 switch 7 bash 20 1 0 swapper/0 20\n\

@@ -1,4 +1,5 @@
 //! The steps that the provider gives.
+use crate::lists::TWO_SWITCHES;
 use event_list::read_list;
 use kernel_provider::{Provider, Step};
 use std::test::Fail;
@@ -8,10 +9,7 @@ use std::test::Fail;
 // path with its value, 6 steps. Then comes the end.
 #[test]
 fn two_switches_have_24_steps(rt: HostRuntime) -> Result<(), Fail> {
-    let list: &[u8] = b"hosttrace events 1\n\
-        100 0 0 100 switch 0 swapper/0 20 0 7 bash 20\n\
-        250 0 0 250 switch 7 bash 20 1 0 swapper/0 20\n";
-    let trace = read_list(rt.alloc(), list)?;
+    let trace = read_list(rt.alloc(), TWO_SWITCHES)?;
     let mut provider = Provider::new(rt.alloc());
     let mut steps = Vec::new(rt.alloc());
     for _ in 0..64 {
