@@ -24,7 +24,11 @@ fn refused<R: AllocGlobal + Abort>(
 #[test]
 fn no_question(rt: HostRuntime) -> Result<(), Fail> {
     refused(&rt, ONE_SWITCH, b"", "questions line 1\n")?;
-    let ran = run_over(&rt, "ask --questions q --list a.list", &[("a.list", ONE_SWITCH)])?;
+    let ran = run_over(
+        &rt,
+        "ask --questions q --list a.list",
+        &[("a.list", ONE_SWITCH)],
+    )?;
     assert_eq!(rt; ran.status.code(), 2);
     assert_eq!(rt; str::from_utf8(&ran.err)?, "questions line 1\n");
     Ok(())
@@ -32,15 +36,30 @@ fn no_question(rt: HostRuntime) -> Result<(), Fail> {
 
 #[test]
 fn line_ends(rt: HostRuntime) -> Result<(), Fail> {
-    refused(&rt, ONE_SWITCH, b"249 h0/Cpu/0/Thread", "questions line 1\n")?;
+    refused(
+        &rt,
+        ONE_SWITCH,
+        b"249 h0/Cpu/0/Thread",
+        "questions line 1\n",
+    )?;
     refused(
         &rt,
         ONE_SWITCH,
         b"249 h0/Cpu/0/Thread\n250 h0/Cpu/0/Thread",
         "questions line 2\n",
     )?;
-    refused(&rt, ONE_SWITCH, b"249 h0/Cpu/0/Thread\n\n", "questions line 2\n")?;
-    refused(&rt, ONE_SWITCH, b"249 h0/Cpu/0/Thread\r\n", "questions line 1\n")
+    refused(
+        &rt,
+        ONE_SWITCH,
+        b"249 h0/Cpu/0/Thread\n\n",
+        "questions line 2\n",
+    )?;
+    refused(
+        &rt,
+        ONE_SWITCH,
+        b"249 h0/Cpu/0/Thread\r\n",
+        "questions line 1\n",
+    )
 }
 
 #[test]
