@@ -1,0 +1,8 @@
+use Rattle.tsdl_lex.proofs.Pieces.{one_list, no_refusal}
+use Rattle.tsdl_lex.proofs.laws.one_reading.Goals as goal
+
+pub returns-clause-tokens : goal.returns-clause-tokens
+returns-clause-tokens c = one_list
+
+pub returns-clause-refused : goal.returns-clause-refused
+returns-clause-refused c = no_refusal
