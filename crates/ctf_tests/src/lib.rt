@@ -2,4 +2,12 @@
 #![tactic(auto)]
 
 #[cfg(test)]
+mod metadata_declarations;
+#[cfg(test)]
 mod metadata_packets;
+#[cfg(test)]
+mod metadata_tokens;
+#[cfg(test)]
+mod printed_tokens;
+#[cfg(test)]
+mod printed_trees;

@@ -7,6 +7,8 @@ ghost use Rattle.meta_packets.specs.declared.joining.MetaPacketError.TheVariants
 
 use crate::header::{HEADER, MetaPacketCause, Order, cause_of, sizes_of, uuid_of};
 use std::alloc::{AllocError, Global};
+use std::error::Error;
+use std::fmt;
 
 /// Why the packets of a metadata file have no text. The offset of the packet is in bytes.
 #[derive(Clone, Copy, Debug, PartialEq, Eq)]
@@ -14,6 +16,19 @@ pub enum MetaPacketError {
     At { offset: u64, cause: MetaPacketCause },
     OutOfMemory,
 }
+
+impl fmt::Display for MetaPacketError {
+    fn fmt<W: fmt::Write>(&self, f: &mut fmt::Formatter<W>) -> fmt::Result {
+        match self {
+            MetaPacketError::At { offset, cause } => {
+                write!(f, "the packet at byte {offset}: {cause:?}")
+            }
+            MetaPacketError::OutOfMemory => write!(f, "out of memory"),
+        }
+    }
+}
+
+impl Error for MetaPacketError {}
 
 impl From<AllocError> for MetaPacketError {
     ghost use Rattle.std.specs.Prelude.{◌≡◌};

@@ -5,7 +5,9 @@ ghost use Rattle.tsdl_lex.specs.declared.scan.LexError.TheVariants.{At};
 
 use crate::lexeme::{Lexeme, lexeme_at};
 use crate::token::Token;
-use std::alloc::{AllocError, AllocFailed, Global};
+use std::alloc::{AllocFailed, Global};
+use std::error::Error;
+use std::fmt;
 use trace_types::OutOfMemory;
 
 /// Why a text has no tokens.
@@ -15,6 +17,17 @@ pub enum LexError {
     At { at: u64 },
     OutOfMemory,
 }
+
+impl fmt::Display for LexError {
+    fn fmt<W: fmt::Write>(&self, f: &mut fmt::Formatter<W>) -> fmt::Result {
+        match self {
+            LexError::At { at } => write!(f, "no token begins at byte {at}"),
+            LexError::OutOfMemory => write!(f, "out of memory"),
+        }
+    }
+}
+
+impl Error for LexError {}
 
 impl From<OutOfMemory> for LexError {
     ghost use Rattle.std.specs.Prelude.{◌≡◌};

@@ -1,0 +1,13 @@
+pub mod Firsts
+pub mod Turns
+pub mod Passing
+pub mod Steps
+pub mod Giving
+pub mod EnumsGiving
+pub mod TypesGiving
+pub mod ItemsGiving
+pub mod Sound
+pub mod EnumsSound
+pub mod TypesSound
+pub mod ItemsSound
+pub mod Reading
