@@ -2,10 +2,10 @@
 use Rattle.std.proofs.Common.{◌≡◌, ℕ, ◌<◌, List, [], ◌∷◌, ◌++◌, length, Some, None, sym, ap, ◌∙◌, subst, arith, append-nil}
 use Rattle.std.proofs.lemmas.Grind.{flat_map-append}
 use Rattle.meta_packets.specs.declared.header.MetaPacketCause.{MetaPacketCause}
-use Rattle.meta_packets.specs.declared.header.Order.{Order}
+use Rattle.trace_types.specs.declared.byte_order.ByteOrderKind.{ByteOrderKind}
 use Rattle.meta_packets.specs.Packets.{IsPacket, Leads, IsJoin, IsRefused, joined, behind, cause_of, uuid_of}
 
-module _ (order : Order) (uuid : List ℕ) where
+module _ (order : ByteOrderKind) (uuid : List ℕ) where
   -- one more packet
   pub leads_more : (bytes : List ℕ) (contents : List (List ℕ)) (rest content : List ℕ) → Leads order uuid bytes contents rest → IsPacket order uuid rest content → Leads order uuid bytes (contents ++ content ∷ []) (behind order rest)
   leads_more bytes [] rest content h is = (subst (λ b. IsPacket order uuid b content) (sym h) is, ap (behind order) h)
@@ -22,5 +22,5 @@ pub joined_more : (contents : List (List ℕ)) (content : List ℕ) → joined (
 joined_more contents content = flat_map-append (λ c. c) contents (content ∷ []) ∙ ap (λ l. joined contents ++ l) (append-nil content)
 
 -- a file of packets that has a text isn't refused, so the two answers leave no choice
-pub text_or_refused : (order : Order) (bytes text : List ℕ) (offset : ℕ) (cause : MetaPacketCause) → IsJoin order bytes text → IsRefused order bytes offset cause → ⊥
+pub text_or_refused : (order : ByteOrderKind) (bytes text : List ℕ) (offset : ℕ) (cause : MetaPacketCause) → IsJoin order bytes text → IsRefused order bytes offset cause → ⊥
 text_or_refused order bytes text offset cause h g = one_end order (uuid_of bytes) bytes h.contents g.contents g.rest cause h.packets g.packets g.some g.fails

@@ -2,8 +2,8 @@
 use Rattle.std.specs.Prelude.{◌≡◌, ◌⊎◌, ℕ, ◌+◌, ◌-◌, ◌*◌, ◌/◌, ◌%◌, ◌<◌, ◌≤◌, ◌==◌, ◌||◌, not, nat_lt, Bool, if◌then◌else◌, List, [], ◌∷◌, length, take, drop, slice_index, flat_map, Option, None, Some}
 use Rattle.std.specs.Cmp.Lexicographic.{pointwise}
 use Rattle.byteorder.specs.Endian.{big_number, little_number}
-use Rattle.meta_packets.specs.declared.header.Order.{Order}
-use Rattle.meta_packets.specs.declared.header.Order.TheVariants.{Big, Little}
+use Rattle.trace_types.specs.declared.byte_order.ByteOrderKind.{ByteOrderKind}
+use Rattle.trace_types.specs.declared.byte_order.ByteOrderKind.TheVariants.{Big, Little}
 use Rattle.meta_packets.specs.declared.header.MetaPacketCause.{MetaPacketCause}
 use Rattle.meta_packets.specs.declared.header.MetaPacketCause.TheVariants.{ShortHeader, BadMagic, Scheme, BadSize, MixedUuid}
 
@@ -15,7 +15,7 @@ abbrev pub HEADER : ℕ
 HEADER = 37
 
 -- the number in the first four bytes
-abbrev pub number : Order → List ℕ → ℕ
+abbrev pub number : ByteOrderKind → List ℕ → ℕ
 number Big bytes = big_number 4 bytes
 number Little bytes = little_number 4 bytes
 
@@ -23,10 +23,10 @@ number Little bytes = little_number 4 bytes
 abbrev pub uuid_of : List ℕ → List ℕ
 uuid_of packet = take 16 (drop 4 packet)
 
-abbrev pub content_bits : Order → List ℕ → ℕ
+abbrev pub content_bits : ByteOrderKind → List ℕ → ℕ
 content_bits order packet = number order (drop 24 packet)
 
-abbrev pub packet_bits : Order → List ℕ → ℕ
+abbrev pub packet_bits : ByteOrderKind → List ℕ → ℕ
 packet_bits order packet = number order (drop 28 packet)
 
 -- text that is compressed or encrypted can't be read
@@ -41,7 +41,7 @@ abbrev pub same_bytes : List ℕ → List ℕ → Bool
 same_bytes = pointwise (λ a b. a == b)
 
 -- the first check that what is left of a file fails as a packet of this byte order and uuid
-abbrev pub cause_of : Order → List ℕ → List ℕ → Option MetaPacketCause
+abbrev pub cause_of : ByteOrderKind → List ℕ → List ℕ → Option MetaPacketCause
 cause_of order uuid rest =
     if nat_lt (length rest) HEADER then Some ShortHeader
     else if not (number order rest == MAGIC) then Some BadMagic
@@ -51,20 +51,20 @@ cause_of order uuid rest =
     else None
 
 -- the text of the packet at the front, and what is left behind it
-abbrev pub content_of : Order → List ℕ → List ℕ
+abbrev pub content_of : ByteOrderKind → List ℕ → List ℕ
 content_of order rest = take (content_bits order rest / 8 - HEADER) (drop HEADER rest)
 
-abbrev pub behind : Order → List ℕ → List ℕ
+abbrev pub behind : ByteOrderKind → List ℕ → List ℕ
 behind order rest = drop (packet_bits order rest / 8) rest
 
 -- a packet that passes all checks stands at the front, with this text
-pub record IsPacket (order : Order) (uuid rest content : List ℕ) : Type 0 where
+pub record IsPacket (order : ByteOrderKind) (uuid rest content : List ℕ) : Type 0 where
   pub some : 0 < length rest
   pub sound : cause_of order uuid rest ≡ None
   pub text : content ≡ content_of order rest
 
 -- packets with these texts stand one behind the other, and leave a rest
-abbrev pub Leads : Order → List ℕ → List ℕ → List (List ℕ) → List ℕ → Type 0
+abbrev pub Leads : ByteOrderKind → List ℕ → List ℕ → List (List ℕ) → List ℕ → Type 0
 Leads order uuid bytes [] rest = bytes ≡ rest
 Leads order uuid bytes (content ∷ contents) rest = IsPacket order uuid bytes content × Leads order uuid (behind order bytes) contents rest
 
@@ -72,24 +72,24 @@ abbrev pub joined : List (List ℕ) → List ℕ
 joined contents = flat_map (λ c. c) contents
 
 -- a file is packets where it begins with the magic number in one of the byte orders
-abbrev pub IsPackets : Order → List ℕ → Type 0
+abbrev pub IsPackets : ByteOrderKind → List ℕ → Type 0
 IsPackets order bytes = (4 ≤ length bytes) × (number order bytes ≡ MAGIC)
 
 abbrev pub IsPlain : List ℕ → Type 0
-IsPlain bytes = (order : Order) → ¬ (IsPackets order bytes)
+IsPlain bytes = (order : ByteOrderKind) → ¬ (IsPackets order bytes)
 
 -- the text of a file: its packets' texts, joined, or the file itself
-pub record IsJoin (order : Order) (bytes text : List ℕ) : Type 0 where
+pub record IsJoin (order : ByteOrderKind) (bytes text : List ℕ) : Type 0 where
   pub is_packets : IsPackets order bytes
   pub contents : List (List ℕ)
   pub packets : Leads order (uuid_of bytes) bytes contents []
   pub is_text : text ≡ joined contents
 
 abbrev pub IsText : List ℕ → List ℕ → Type 0
-IsText bytes text = (IsPlain bytes × (text ≡ bytes)) ⊎ ((order : Order) × IsJoin order bytes text)
+IsText bytes text = (IsPlain bytes × (text ≡ bytes)) ⊎ ((order : ByteOrderKind) × IsJoin order bytes text)
 
 -- behind sound packets, at this offset in bytes, the first check that fails
-pub record IsRefused (order : Order) (bytes : List ℕ) (offset : ℕ) (cause : MetaPacketCause) : Type 0 where
+pub record IsRefused (order : ByteOrderKind) (bytes : List ℕ) (offset : ℕ) (cause : MetaPacketCause) : Type 0 where
   pub is_packets : IsPackets order bytes
   pub contents : List (List ℕ)
   pub rest : List ℕ

@@ -3,6 +3,7 @@ ghost use Rattle.std.specs.Prelude.{◌≡◌, ◌<◌, ◌≤◌, ◌%◌, leng
 ghost use Rattle.meta_packets.specs.Packets.{MAGIC, HEADER, number, uuid_of, content_bits, packet_bits, is_coded, is_missized, same_bytes, cause_of, IsPackets, IsPlain};
 
 use byteorder::{BigEndian, ByteOrder, LittleEndian};
+use trace_types::ByteOrderKind;
 
 /// The bytes of a header.
 pub const HEADER: usize = 37;
@@ -24,43 +25,31 @@ pub enum MetaPacketCause {
     MixedUuid,
 }
 
-/// The byte order of a file's headers.
-#[derive(Clone, Copy, Debug, PartialEq, Eq)]
-pub enum Order {
-    Big,
-    Little,
+/// The byte order in which a file begins with the magic number.
+pub fn order_of(bytes: &[u8]) -> Option<ByteOrderKind>
+    ensures found { IfSome result (λ order. IsPackets order bytes.now) }
+    ensures none { IfNone result (IsPlain bytes.now) }
+{
+    if bytes.len() < 4 {
+        return None;
+    }
+    if number(ByteOrderKind::Big, bytes) == MAGIC {
+        return Some(ByteOrderKind::Big);
+    }
+    if number(ByteOrderKind::Little, bytes) == MAGIC {
+        return Some(ByteOrderKind::Little);
+    }
+    None
 }
 
-impl Order {
-    ghost use Rattle.std.specs.Prelude.{◌≡◌, ◌≤◌, length, IfSome, IfNone};
-    ghost use Rattle.meta_packets.specs.Packets.{number, IsPackets, IsPlain};
-
-    /// The byte order in which a file begins with the magic number.
-    pub fn of(bytes: &[u8]) -> Option<Order>
-        ensures found { IfSome result (λ order. IsPackets order bytes.now) }
-        ensures none { IfNone result (IsPlain bytes.now) }
-    {
-        if bytes.len() < 4 {
-            return None;
-        }
-        if Order::Big.number(bytes) == MAGIC {
-            return Some(Order::Big);
-        }
-        if Order::Little.number(bytes) == MAGIC {
-            return Some(Order::Little);
-        }
-        None
-    }
-
-    // The number in the first four bytes.
-    fn number(self, bytes: &[u8]) -> u32
-        requires { 4 ≤ length bytes.now }
-        ensures { result ≡ number self bytes.now }
-    {
-        match self {
-            Order::Big => BigEndian::read_u32(bytes),
-            Order::Little => LittleEndian::read_u32(bytes),
-        }
+// The number in the first four bytes.
+fn number(order: ByteOrderKind, bytes: &[u8]) -> u32
+    requires { 4 ≤ length bytes.now }
+    ensures { result ≡ number order bytes.now }
+{
+    match order {
+        ByteOrderKind::Big => BigEndian::read_u32(bytes),
+        ByteOrderKind::Little => LittleEndian::read_u32(bytes),
     }
 }
 
@@ -79,25 +68,25 @@ pub struct Sizes {
 }
 
 /// The sizes that a header tells.
-pub fn sizes_of(order: Order, packet: &[u8]) -> Sizes
+pub fn sizes_of(order: ByteOrderKind, packet: &[u8]) -> Sizes
     requires { HEADER ≤ length packet.now }
     ensures content { result.content ≡ content_bits order packet.now }
     ensures packet { result.packet ≡ packet_bits order packet.now }
 {
     Sizes {
-        content: order.number(&packet[24..]),
-        packet: order.number(&packet[28..]),
+        content: number(order, &packet[24..]),
+        packet: number(order, &packet[28..]),
     }
 }
 
 /// The first check that the packet at the front of a file's rest fails.
-pub fn cause_of(order: Order, uuid: &[u8], rest: &[u8]) -> Option<MetaPacketCause>
+pub fn cause_of(order: ByteOrderKind, uuid: &[u8], rest: &[u8]) -> Option<MetaPacketCause>
     ensures { result ≡ cause_of order uuid.now rest.now }
 {
     if rest.len() < HEADER {
         return Some(MetaPacketCause::ShortHeader);
     }
-    if order.number(rest) != MAGIC {
+    if number(order, rest) != MAGIC {
         return Some(MetaPacketCause::BadMagic);
     }
     if is_coded(rest) {

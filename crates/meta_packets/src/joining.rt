@@ -2,13 +2,14 @@
 ghost use Rattle.std.specs.Prelude.{◌≡◌, ◌<◌, ◌≤◌, ℕ, List, length, IfOk, None, Err};
 ghost use Rattle.meta_packets.specs.Packets.{IsText, IsJoin, IsRefused, IsPackets, IsPacket, content_of, behind, cause_of};
 ghost use Rattle.meta_packets.specs.declared.header.MetaPacketCause.{MetaPacketCause};
-ghost use Rattle.meta_packets.specs.declared.header.Order.{Order};
+ghost use Rattle.trace_types.specs.declared.byte_order.ByteOrderKind.{ByteOrderKind};
 ghost use Rattle.meta_packets.specs.declared.joining.MetaPacketError.TheVariants.{At};
 
-use crate::header::{HEADER, MetaPacketCause, Order, cause_of, sizes_of, uuid_of};
+use crate::header::{HEADER, MetaPacketCause, cause_of, order_of, sizes_of, uuid_of};
 use std::alloc::{AllocError, Global};
 use std::error::Error;
 use std::fmt;
+use trace_types::ByteOrderKind;
 
 /// Why the packets of a metadata file have no text. The offset of the packet is in bytes.
 #[derive(Clone, Copy, Debug, PartialEq, Eq)]
@@ -45,9 +46,9 @@ impl From<AllocError> for MetaPacketError {
 /// begin with the magic number of a packet. The first packet that fails a check is refused.
 pub fn join(alloc: Global, bytes: &[u8]) -> Result<Vec<u8>, MetaPacketError>
     ensures text { IfOk result (λ text. IsText bytes.now text.items) }
-    ensures refused { (offset : ℕ) (cause : MetaPacketCause) → result ≡ Err (At offset cause) → (order : Order) × IsRefused order bytes.now offset cause }
+    ensures refused { (offset : ℕ) (cause : MetaPacketCause) → result ≡ Err (At offset cause) → (order : ByteOrderKind) × IsRefused order bytes.now offset cause }
 {
-    match Order::of(bytes) {
+    match order_of(bytes) {
         Some(order) => join_packets(alloc, order, bytes),
         None => {
             let mut text = Vec::new(alloc);
@@ -58,7 +59,11 @@ pub fn join(alloc: Global, bytes: &[u8]) -> Result<Vec<u8>, MetaPacketError>
 }
 
 // The joined contents of packets of one byte order.
-fn join_packets(alloc: Global, order: Order, bytes: &[u8]) -> Result<Vec<u8>, MetaPacketError>
+fn join_packets(
+    alloc: Global,
+    order: ByteOrderKind,
+    bytes: &[u8],
+) -> Result<Vec<u8>, MetaPacketError>
     requires { IsPackets order bytes.now }
     ensures text { IfOk result (λ text. IsJoin order bytes.now text.items) }
     ensures refused { (offset : ℕ) (cause : MetaPacketCause) → result ≡ Err (At offset cause) → IsRefused order bytes.now offset cause }
@@ -79,7 +84,7 @@ fn join_packets(alloc: Global, order: Order, bytes: &[u8]) -> Result<Vec<u8>, Me
 }
 
 // The text of the packet at the front, which passes all checks, and what is left behind it.
-fn cut(order: Order, rest: &[u8]) -> (&[u8], &[u8])
+fn cut(order: ByteOrderKind, rest: &[u8]) -> (&[u8], &[u8])
     requires { (uuid : List ℕ) × (cause_of order uuid rest.now ≡ None) }
     ensures content { result.0.now ≡ content_of order rest.now }
     ensures behind { result.1.now ≡ behind order rest.now }

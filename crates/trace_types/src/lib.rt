@@ -1,6 +1,7 @@
 //! What all crates of hosttrace share: events, attribute paths, values and their small texts.
 #![tactic(auto)]
 
+mod byte_order;
 mod byte_text;
 mod comm;
 mod cut;
@@ -12,6 +13,7 @@ mod path_text;
 mod text;
 mod value;
 
+pub use byte_order::ByteOrderKind;
 pub use byte_text::write_byte_text;
 pub use comm::{Comm, read_comm};
 pub use cut::cut_at;
