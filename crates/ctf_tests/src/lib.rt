@@ -2,6 +2,8 @@
 #![tactic(auto)]
 
 #[cfg(test)]
+mod bits;
+#[cfg(test)]
 mod metadata_declarations;
 #[cfg(test)]
 mod metadata_packets;
