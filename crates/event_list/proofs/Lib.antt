@@ -1,4 +1,5 @@
 pub mod InRange
 pub mod WordLists
+pub mod KindWords
 pub mod Spelling
 pub mod Reading

@@ -13,8 +13,8 @@ use Rattle.trace_types.proofs.Decimals.{below_wide, decimal_high}
 use Rattle.trace_types.proofs.Everywhere.{all_weaker, all_both}
 use Rattle.trace_types.specs.declared.event.Merged.{Merged}
 use Rattle.trace_types.specs.declared.event.KernelEvent.{KernelEvent}
-use Rattle.trace_types.specs.declared.event.KernelEvent.TheVariants.{Switch}
-use Rattle.event_list.specs.Lines.{kind_words, words_of, IsKind, IsEvent}
+use Rattle.trace_types.specs.declared.event.KernelEvent.TheVariants.{Switch, Wakeup, WakeupNew, Waking, Fork, Exit, Free, Migrate, IrqIn, IrqOut, SoftIn, SoftOut, Process}
+use Rattle.event_list.specs.Lines.{kind_words, woken_words, words_of, IsKind, IsWoken, IsEvent}
 
 -- every byte of the word is past the space
 abbrev pub IsWord : List ℕ → Type 0
@@ -62,11 +62,29 @@ mag_32 (negsuc n) h = omega (arith, ints)
 number : (n limit : ℕ) → n < limit → limit < 2 ^ 64 → IsWord (decimal n)
 number n limit h g = decimal_word n (below_wide n limit h g)
 
+small : (n : ℕ) → n < 2 ^ 31 → IsWord (decimal n)
+small n h = number n (2 ^ 31) h (omega arith)
+
+woken_are_words : (tid : ℕ) (comm : List ℕ) (prio : ℤ) (cpu : ℕ) → IsWoken tid comm prio cpu → AreWords (woken_words tid comm prio cpu)
+woken_are_words tid comm prio cpu h = (small tid h.0, (byte_text_word comm, (signed_word prio (mag_32 prio h.2), (small cpu h.3, tt))))
+
 kind_are_words : (k : KernelEvent) → IsKind k → AreWords (kind_words k)
 kind_are_words (Switch s pt nt pp np pc nc) h =
     let prev : IsWord (decimal pt) = number pt (2 ^ 31) h.0 (omega arith) in
     let next : IsWord (decimal nt) = number nt (2 ^ 31) h.4 (omega arith) in
     (search rules, (prev, (byte_text_word pc, (signed_word pp (mag_32 pp h.2), (signed_word s (mag_64 s h.3), (next, (byte_text_word nc, (signed_word np (mag_32 np h.6), tt))))))))
+kind_are_words (Wakeup tid comm prio cpu) h = (search rules, woken_are_words tid comm prio cpu h)
+kind_are_words (WakeupNew tid comm prio cpu) h = (search rules, woken_are_words tid comm prio cpu h)
+kind_are_words (Waking tid comm prio cpu) h = (search rules, woken_are_words tid comm prio cpu h)
+kind_are_words (Fork parent child comm) h = (search rules, (small parent h.0, (small child h.1, (byte_text_word comm, tt))))
+kind_are_words (Exit tid) h = (search rules, (small tid h, tt))
+kind_are_words (Free tid) h = (search rules, (small tid h, tt))
+kind_are_words (Migrate tid cpu) h = (search rules, (small tid h.0, (small cpu h.1, tt)))
+kind_are_words (IrqIn irq) h = (search rules, (small irq h, tt))
+kind_are_words (IrqOut irq) h = (search rules, (small irq h, tt))
+kind_are_words (SoftIn vec) h = (search rules, (small vec h, tt))
+kind_are_words (SoftOut vec) h = (search rules, (small vec h, tt))
+kind_are_words (Process tid ppid name status) h = (search rules, (small tid h.0, (small ppid h.1, (byte_text_word name, (small status h.3, tt)))))
 
 pub are_words : (m : Merged) → IsEvent m → AreWords (words_of m)
 are_words m h =

@@ -1,5 +1,5 @@
 -- The words of a line as the code holds them, by place.
-use Rattle.std.proofs.Common.{◌≡◌, ℕ, ℤ, zero, suc, ◌<◌, ◌≤◌, ◌^◌, List, [], ◌∷◌, length, map, get_or, Bor, codes, refl, sym, ap, ◌∙◌, arith, FitsSigned}
+use Rattle.std.proofs.Common.{◌≡◌, ℕ, ℤ, zero, suc, ◌<◌, ◌≤◌, ◌^◌, List, [], ◌∷◌, length, map, get_or, Bor, refl, sym, ap, ◌∙◌, arith, FitsSigned}
 use Rattle.std.specs.Int.{w64}
 use Rattle.std.specs.Fmt.{decimal}
 use Rattle.trace_types.specs.Numbers.{IsNumber, IsSigned}
@@ -7,9 +7,11 @@ use Rattle.trace_types.specs.declared.event.Merged.{Merged}
 use Rattle.trace_types.proofs.Decimals.{same_number, below_wide}
 use Rattle.trace_types.specs.declared.event.KernelEvent.{KernelEvent}
 use Rattle.trace_types.specs.declared.event.KernelEvent.TheVariants.{Switch}
-use Rattle.event_list.specs.declared.line.SwitchedThread.{SwitchedThread}
+use Rattle.event_list.specs.declared.thread.NamedThread.{NamedThread}
 use Rattle.event_list.specs.Threads.{IsThread}
-use Rattle.event_list.specs.Lines.{IsLine, IsKindLine}
+use Rattle.event_list.specs.declared.kind_word.KindWord.TheVariants as word_kind
+use Rattle.event_list.specs.Kinds.{IsWakeup, IsOf}
+use Rattle.event_list.specs.Lines.{IsLine}
 
 -- the word at a place, none past the end
 abbrev pub word : List (Bor (List ℕ)) → ℕ → List ℕ
@@ -26,9 +28,6 @@ word_is ws vs i e = at ws i ∙ ap (λ l. get_or l i []) e
     at (w ∷ ws) zero = refl
     at (w ∷ ws) (suc i) = at ws i
 
-tail_is : (v w : List ℕ) (vs ws : List (List ℕ)) → v ∷ vs ≡ w ∷ ws → vs ≡ ws
-tail_is v w vs ws e = cc
-
 seven : (ws : List (Bor (List ℕ))) → 7 ≤ length ws → length ws < 8 → texts ws ≡ word ws 0 ∷ word ws 1 ∷ word ws 2 ∷ word ws 3 ∷ word ws 4 ∷ word ws 5 ∷ word ws 6 ∷ []
 seven (a ∷ b ∷ c ∷ d ∷ e ∷ f ∷ g ∷ []) low high = refl
 seven [] low high = absurd (omega arith)
@@ -41,26 +40,45 @@ seven (a ∷ b ∷ c ∷ d ∷ e ∷ f ∷ []) low high = absurd (omega arith)
 seven (a ∷ b ∷ c ∷ d ∷ e ∷ f ∷ g ∷ h ∷ ws) low high = absurd (omega arith)
 
 -- the seven words of a switch
-pub switch_found : (ws : List (Bor (List ℕ))) (prev next : SwitchedThread) (state : ℤ) → 7 ≤ length ws → length ws < 8 → IsThread (word ws 0) (word ws 1) (word ws 2) prev → IsSigned (word ws 3) state → FitsSigned w64 state
-    → IsThread (word ws 4) (word ws 5) (word ws 6) next → IsKindLine (codes "switch" ∷ texts ws) (Switch state prev.tid next.tid prev.prio next.prio prev.comm next.comm)
-switch_found ws prev next state low high p s fits n = record {
-  spelling = ap (λ l. codes "switch" ∷ l) (rw (seven ws low high, p.is_tid, p.is_comm.spelling, p.is_prio, s, n.is_tid, n.is_comm.spelling, n.is_prio) refl);
-  is_kind = (p.tid_below, p.is_comm.is_name, p.prio_fits, fits, n.tid_below, n.is_comm.is_name, n.prio_fits);
-}
+pub switch_found : (ws : List (Bor (List ℕ))) (prev next : NamedThread) (state : ℤ) → 7 ≤ length ws → length ws < 8 → IsThread (word ws 0) (word ws 1) (word ws 2) prev → IsSigned (word ws 3) state → FitsSigned w64 state
+    → IsThread (word ws 4) (word ws 5) (word ws 6) next → IsOf word_kind.Switch (texts ws) (Switch state prev.tid next.tid prev.prio next.prio prev.comm next.comm)
+switch_found ws prev next state low high p s fits n = (
+  state,
+  prev.tid,
+  next.tid,
+  prev.prio,
+  next.prio,
+  prev.comm,
+  next.comm,
+  record {
+    spelled = rw (seven ws low high, p.is_tid, p.is_comm.spelling, p.is_prio, s, n.is_tid, n.is_comm.spelling, n.is_prio) refl;
+    fit = (p.tid_below, p.is_comm.is_name, p.prio_fits, fits, n.tid_below, n.is_comm.is_name, n.prio_fits);
+  },
+  refl,
+)
 
 -- where the words of a thread are none, the line is of no switch
-pub no_prev : (ws : List (Bor (List ℕ))) → ((t : SwitchedThread) → ¬ (IsThread (word ws 0) (word ws 1) (word ws 2) t)) → (k : KernelEvent) → ¬ (IsKindLine (codes "switch" ∷ texts ws) k)
-no_prev ws none (Switch s pt nt pp np pc nc) k =
-    let e = tail_is _ _ _ _ k.spelling in
-    none (record { tid = pt; prio = pp; comm = pc }) (record { is_tid = word_is ws _ 0 e; tid_below = k.is_kind.0; is_comm = record { spelling = word_is ws _ 1 e; is_name = k.is_kind.1 }; is_prio = word_is ws _ 2 e; prio_fits = k.is_kind.2 })
+pub no_prev : (ws : List (Bor (List ℕ))) → ((t : NamedThread) → ¬ (IsThread (word ws 0) (word ws 1) (word ws 2) t)) → (k : KernelEvent) → ¬ (IsOf word_kind.Switch (texts ws) k)
+no_prev ws none k (s, pt, nt, pp, np, pc, nc, is, same) =
+    let e = is.spelled in
+    none (record { tid = pt; prio = pp; comm = pc }) (record { is_tid = word_is ws _ 0 e; tid_below = is.fit.0; is_comm = record { spelling = word_is ws _ 1 e; is_name = is.fit.1 }; is_prio = word_is ws _ 2 e; prio_fits = is.fit.2 })
 
-pub no_state : (ws : List (Bor (List ℕ))) → ((z : ℤ) → FitsSigned w64 z → ¬ (IsSigned (word ws 3) z)) → (k : KernelEvent) → ¬ (IsKindLine (codes "switch" ∷ texts ws) k)
-no_state ws none (Switch s pt nt pp np pc nc) k = none s k.is_kind.3 (word_is ws _ 3 (tail_is _ _ _ _ k.spelling))
+pub no_state : (ws : List (Bor (List ℕ))) → ((z : ℤ) → FitsSigned w64 z → ¬ (IsSigned (word ws 3) z)) → (k : KernelEvent) → ¬ (IsOf word_kind.Switch (texts ws) k)
+no_state ws none k (s, pt, nt, pp, np, pc, nc, is, same) = none s is.fit.3 (word_is ws _ 3 is.spelled)
 
-pub no_next : (ws : List (Bor (List ℕ))) → ((t : SwitchedThread) → ¬ (IsThread (word ws 4) (word ws 5) (word ws 6) t)) → (k : KernelEvent) → ¬ (IsKindLine (codes "switch" ∷ texts ws) k)
-no_next ws none (Switch s pt nt pp np pc nc) k =
-    let e = tail_is _ _ _ _ k.spelling in
-    none (record { tid = nt; prio = np; comm = nc }) (record { is_tid = word_is ws _ 4 e; tid_below = k.is_kind.4; is_comm = record { spelling = word_is ws _ 5 e; is_name = k.is_kind.5 }; is_prio = word_is ws _ 6 e; prio_fits = k.is_kind.6 })
+pub no_next : (ws : List (Bor (List ℕ))) → ((t : NamedThread) → ¬ (IsThread (word ws 4) (word ws 5) (word ws 6) t)) → (k : KernelEvent) → ¬ (IsOf word_kind.Switch (texts ws) k)
+no_next ws none k (s, pt, nt, pp, np, pc, nc, is, same) =
+    let e = is.spelled in
+    none (record { tid = nt; prio = np; comm = nc }) (record { is_tid = word_is ws _ 4 e; tid_below = is.fit.4; is_comm = record { spelling = word_is ws _ 5 e; is_name = is.fit.5 }; is_prio = word_is ws _ 6 e; prio_fits = is.fit.6 })
+
+-- nor of a wakeup
+pub no_woken : (ws : List (Bor (List ℕ))) → ((t : NamedThread) → ¬ (IsThread (word ws 0) (word ws 1) (word ws 2) t)) → (tid : ℕ) (comm : List ℕ) (prio : ℤ) (cpu : ℕ) → ¬ (IsWakeup (texts ws) tid comm prio cpu)
+no_woken ws none tid comm prio cpu is =
+    let e = is.spelled in
+    none (record { tid = tid; prio = prio; comm = comm }) (record { is_tid = word_is ws _ 0 e; tid_below = is.fit.0; is_comm = record { spelling = word_is ws _ 1 e; is_name = is.fit.1 }; is_prio = word_is ws _ 2 e; prio_fits = is.fit.2 })
+
+pub no_target : (ws : List (Bor (List ℕ))) → ((n : ℕ) → n < 2 ^ 31 → ¬ (IsNumber (word ws 3) n)) → (tid : ℕ) (comm : List ℕ) (prio : ℤ) (cpu : ℕ) → ¬ (IsWakeup (texts ws) tid comm prio cpu)
+no_target ws none tid comm prio cpu is = none cpu is.fit.3 (word_is ws _ 3 is.spelled)
 
 -- no event has the time 0
 pub no_time : (ws : List (Bor (List ℕ))) (t : ℕ) → IsNumber (word ws 3) t → t ≡ 0 → (m : Merged) → ¬ (IsLine (texts ws) m)

@@ -1,5 +1,5 @@
 -- The text of merged events: a first line, and one line an event (this project's own format).
-use Rattle.std.specs.Prelude.{◌≡◌, ◌≢◌, ◌⊎◌, ◌+◌, length, ℕ, ◌^◌, ◌<◌, ◌≤◌, List, [], ◌∷◌, ◌++◌, codes, flat_map, FitsSigned}
+use Rattle.std.specs.Prelude.{◌≡◌, ◌≢◌, ◌⊎◌, ◌+◌, length, ℕ, ◌^◌, ◌<◌, ◌≤◌, List, [], ◌∷◌, ◌++◌, codes, flat_map, FitsSigned, ℤ}
 use Rattle.std.specs.List.{AllByRecursion, join_with_byte}
 use Rattle.std.specs.Int.{w32, w64}
 use Rattle.std.specs.Fmt.{decimal, signed_decimal}
@@ -7,13 +7,33 @@ use Rattle.trace_types.specs.ByteTexts.{byte_text}
 use Rattle.trace_types.specs.Comms.{IsName}
 use Rattle.trace_types.specs.declared.event.Merged.{Merged}
 use Rattle.trace_types.specs.declared.event.KernelEvent.{KernelEvent}
-use Rattle.trace_types.specs.declared.event.KernelEvent.TheVariants.{Switch}
+use Rattle.trace_types.specs.declared.event.KernelEvent.TheVariants.{Switch, Wakeup, WakeupNew, Waking, Fork, Exit, Free, Migrate, IrqIn, IrqOut, SoftIn, SoftOut, Process}
 use Rattle.event_list.specs.Order.{RiseFrom}
+
+-- the fields of a switch
+abbrev pub switch_words : ℤ → ℕ → ℕ → ℤ → ℤ → List ℕ → List ℕ → List (List ℕ)
+switch_words prev_state prev_tid next_tid prev_prio next_prio prev_comm next_comm =
+    decimal prev_tid ∷ byte_text prev_comm ∷ signed_decimal prev_prio ∷ signed_decimal prev_state ∷ decimal next_tid ∷ byte_text next_comm ∷ signed_decimal next_prio ∷ []
+
+-- the fields of a wakeup
+abbrev pub woken_words : ℕ → List ℕ → ℤ → ℕ → List (List ℕ)
+woken_words tid comm prio target_cpu = decimal tid ∷ byte_text comm ∷ signed_decimal prio ∷ decimal target_cpu ∷ []
 
 -- the words of a kind: its name, and its fields as its tracepoint has them
 abbrev pub kind_words : KernelEvent → List (List ℕ)
-kind_words (Switch prev_state prev_tid next_tid prev_prio next_prio prev_comm next_comm) =
-    codes "switch" ∷ decimal prev_tid ∷ byte_text prev_comm ∷ signed_decimal prev_prio ∷ signed_decimal prev_state ∷ decimal next_tid ∷ byte_text next_comm ∷ signed_decimal next_prio ∷ []
+kind_words (Switch prev_state prev_tid next_tid prev_prio next_prio prev_comm next_comm) = codes "switch" ∷ switch_words prev_state prev_tid next_tid prev_prio next_prio prev_comm next_comm
+kind_words (Wakeup tid comm prio target_cpu) = codes "wakeup" ∷ woken_words tid comm prio target_cpu
+kind_words (WakeupNew tid comm prio target_cpu) = codes "wakeup-new" ∷ woken_words tid comm prio target_cpu
+kind_words (Waking tid comm prio target_cpu) = codes "waking" ∷ woken_words tid comm prio target_cpu
+kind_words (Fork parent_tid child_tid child_comm) = codes "fork" ∷ decimal parent_tid ∷ decimal child_tid ∷ byte_text child_comm ∷ []
+kind_words (Exit tid) = codes "exit" ∷ decimal tid ∷ []
+kind_words (Free tid) = codes "free" ∷ decimal tid ∷ []
+kind_words (Migrate tid dest_cpu) = codes "migrate" ∷ decimal tid ∷ decimal dest_cpu ∷ []
+kind_words (IrqIn irq) = codes "irq-in" ∷ decimal irq ∷ []
+kind_words (IrqOut irq) = codes "irq-out" ∷ decimal irq ∷ []
+kind_words (SoftIn vec) = codes "soft-in" ∷ decimal vec ∷ []
+kind_words (SoftOut vec) = codes "soft-out" ∷ decimal vec ∷ []
+kind_words (Process tid ppid name status) = codes "process" ∷ decimal tid ∷ decimal ppid ∷ byte_text name ∷ decimal status ∷ []
 
 -- the words of an event's line: its key, host, processor and own time, and its kind
 abbrev pub words_of : Merged → List (List ℕ)
@@ -26,10 +46,30 @@ line_text m = join_with_byte 32 (words_of m) ++ 10 ∷ []
 abbrev pub first_line : List ℕ
 first_line = codes "hosttrace events 1\n"
 
--- the ranges of a kind's fields: tids below 2^31, priorities of 32 bits, a state of 64 bits
-abbrev pub IsKind : KernelEvent → Type 0
-IsKind (Switch prev_state prev_tid next_tid prev_prio next_prio prev_comm next_comm) =
+-- the ranges of a switch's fields
+abbrev pub IsSwitched : ℤ → ℕ → ℕ → ℤ → ℤ → List ℕ → List ℕ → Type 0
+IsSwitched prev_state prev_tid next_tid prev_prio next_prio prev_comm next_comm =
     (prev_tid < 2 ^ 31) × IsName prev_comm × FitsSigned w32 prev_prio × FitsSigned w64 prev_state × (next_tid < 2 ^ 31) × IsName next_comm × FitsSigned w32 next_prio
+
+-- the ranges of a wakeup's fields
+abbrev pub IsWoken : ℕ → List ℕ → ℤ → ℕ → Type 0
+IsWoken tid comm prio target_cpu = (tid < 2 ^ 31) × IsName comm × FitsSigned w32 prio × (target_cpu < 2 ^ 31)
+
+-- the ranges of a kind's fields: numbers below 2^31, priorities of 32 bits, a state of 64 bits
+abbrev pub IsKind : KernelEvent → Type 0
+IsKind (Switch prev_state prev_tid next_tid prev_prio next_prio prev_comm next_comm) = IsSwitched prev_state prev_tid next_tid prev_prio next_prio prev_comm next_comm
+IsKind (Wakeup tid comm prio target_cpu) = IsWoken tid comm prio target_cpu
+IsKind (WakeupNew tid comm prio target_cpu) = IsWoken tid comm prio target_cpu
+IsKind (Waking tid comm prio target_cpu) = IsWoken tid comm prio target_cpu
+IsKind (Fork parent_tid child_tid child_comm) = (parent_tid < 2 ^ 31) × (child_tid < 2 ^ 31) × IsName child_comm
+IsKind (Exit tid) = tid < 2 ^ 31
+IsKind (Free tid) = tid < 2 ^ 31
+IsKind (Migrate tid dest_cpu) = (tid < 2 ^ 31) × (dest_cpu < 2 ^ 31)
+IsKind (IrqIn irq) = irq < 2 ^ 31
+IsKind (IrqOut irq) = irq < 2 ^ 31
+IsKind (SoftIn vec) = vec < 2 ^ 31
+IsKind (SoftOut vec) = vec < 2 ^ 31
+IsKind (Process tid ppid name status) = (tid < 2 ^ 31) × (ppid < 2 ^ 31) × IsName name × (status < 2 ^ 31)
 
 -- the ranges of an event's fields
 pub record IsEvent (m : Merged) : Type 0 where

@@ -1,8 +1,12 @@
 //! The text of merged events.
 #![tactic(auto)]
 
+mod fields;
+mod kind;
+mod kind_word;
 mod line;
 mod list;
+mod thread;
 mod trace;
 mod words;
 

@@ -16,6 +16,8 @@ mod harness;
 #[cfg(test)]
 mod history_runs;
 #[cfg(test)]
+mod kind_runs;
+#[cfg(test)]
 mod lists;
 #[cfg(test)]
 mod small_texts;

@@ -8,10 +8,10 @@ use Rattle.trace_types.specs.declared.path.ThreadKey.TheVariants.{Idle, Tid}
 use Rattle.trace_types.specs.declared.path.CpuLeaf.TheVariants as cpu_leaf
 use Rattle.trace_types.specs.declared.path.ThreadLeaf.TheVariants as thread_leaf
 use Rattle.trace_types.specs.declared.value.Value.{Value}
-use Rattle.trace_types.specs.declared.value.Value.TheVariants.{Int, Comm}
+use Rattle.trace_types.specs.declared.value.Value.TheVariants.{Null, Int, Comm}
 use Rattle.trace_types.specs.declared.event.Event.{Event}
 use Rattle.trace_types.specs.declared.event.KernelEvent.{KernelEvent}
-use Rattle.trace_types.specs.declared.event.KernelEvent.TheVariants.{Switch}
+use Rattle.trace_types.specs.declared.event.KernelEvent.TheVariants.{Switch, Wakeup, WakeupNew, Waking, Fork, Exit, Free, Migrate, IrqIn, IrqOut, SoftIn, SoftOut, Process}
 use Rattle.trace_types.specs.Same.{same_value}
 use Rattle.kernel_provider.specs.declared.rules.Assignment.{Assignment}
 
@@ -43,21 +43,81 @@ gives p v = record { path = p; value = v }
 abbrev pub left_status : ℤ → Value
 left_status state = if cast_unsigned w64 state % 256 == 0 then READY else BLOCKED
 
--- a switch: the thread that leaves, unless it has ended, then the one that comes, then the processor
-abbrev pub switch_assignments : Values → ℕ → ℕ → ThreadKey → ThreadKey → KernelEvent → List Assignment
-switch_assignments values host cpu prev next (Switch prev_state prev_tid next_tid prev_prio next_prio prev_comm next_comm) =
-    (if same_value (values (path.Thread host prev thread_leaf.Status)) ENDED then [] else gives (path.Thread host prev thread_leaf.Status) (left_status prev_state) ∷ [])
-    ++ gives (path.Thread host prev thread_leaf.Name) (Comm prev_comm)
-    ∷ gives (path.Thread host prev thread_leaf.Prio) (Int prev_prio)
-    ∷ gives (path.Thread host next thread_leaf.Status) RUNNING
-    ∷ gives (path.Thread host next thread_leaf.Name) (Comm next_comm)
-    ∷ gives (path.Thread host next thread_leaf.Cpu) (Int (pos cpu))
-    ∷ gives (path.Thread host next thread_leaf.Prio) (Int next_prio)
-    ∷ gives (path.Cpu host cpu cpu_leaf.Thread) (Int (pos next_tid)) ∷ []
+-- a thread that leaves its processor; one that has ended keeps that status
+abbrev pub leaving_assignments : Values → ℕ → ThreadKey → ℤ → ℤ → List ℕ → List Assignment
+leaving_assignments values host thread state prio comm =
+    (if same_value (values (path.Thread host thread thread_leaf.Status)) ENDED then [] else gives (path.Thread host thread thread_leaf.Status) (left_status state) ∷ [])
+    ++ gives (path.Thread host thread thread_leaf.Name) (Comm comm) ∷ gives (path.Thread host thread thread_leaf.Prio) (Int prio) ∷ []
+
+-- a thread that comes to a processor
+abbrev pub coming_assignments : ℕ → ℕ → ℕ → ℤ → List ℕ → List Assignment
+coming_assignments host cpu tid prio comm =
+    gives (path.Thread host (thread_of tid cpu) thread_leaf.Status) RUNNING
+    ∷ gives (path.Thread host (thread_of tid cpu) thread_leaf.Name) (Comm comm)
+    ∷ gives (path.Thread host (thread_of tid cpu) thread_leaf.Cpu) (Int (pos cpu))
+    ∷ gives (path.Thread host (thread_of tid cpu) thread_leaf.Prio) (Int prio)
+    ∷ gives (path.Cpu host cpu cpu_leaf.Thread) (Int (pos tid)) ∷ []
+
+-- a thread that is woken: where it doesn't run, it is ready, on the processor where it waits
+abbrev pub woken_assignments : Values → ℕ → ThreadKey → List ℕ → ℤ → ℕ → List Assignment
+woken_assignments values host thread comm prio target_cpu =
+    gives (path.Thread host thread thread_leaf.Name) (Comm comm)
+    ∷ gives (path.Thread host thread thread_leaf.Prio) (Int prio)
+    ∷ (if same_value (values (path.Thread host thread thread_leaf.Status)) RUNNING then [] else gives (path.Thread host thread thread_leaf.Status) READY ∷ gives (path.Thread host thread thread_leaf.Cpu) (Int (pos target_cpu)) ∷ [])
+
+-- a thread that is made
+abbrev pub forked_assignments : ℕ → ThreadKey → ℕ → List ℕ → List Assignment
+forked_assignments host thread parent_tid comm =
+    gives (path.Thread host thread thread_leaf.Status) READY
+    ∷ gives (path.Thread host thread thread_leaf.Name) (Comm comm)
+    ∷ gives (path.Thread host thread thread_leaf.Parent) (Int (pos parent_tid))
+    ∷ gives (path.Thread host thread thread_leaf.Call) Null ∷ []
+
+-- a thread of which nothing is left
+abbrev pub freed_assignments : ℕ → ThreadKey → List Assignment
+freed_assignments host thread =
+    gives (path.Thread host thread thread_leaf.Status) Null
+    ∷ gives (path.Thread host thread thread_leaf.Name) Null
+    ∷ gives (path.Thread host thread thread_leaf.Cpu) Null
+    ∷ gives (path.Thread host thread thread_leaf.Prio) Null
+    ∷ gives (path.Thread host thread thread_leaf.Parent) Null
+    ∷ gives (path.Thread host thread thread_leaf.Call) Null ∷ []
+
+-- the status of a thread that the tracer found: 2 waits to run, 5 is blocked, and any other tells nothing
+abbrev pub found_status : AttributePath → ℕ → List Assignment
+found_status status found = if found == 2 then gives status READY ∷ [] else if found == 5 then gives status BLOCKED ∷ [] else []
+
+-- a thread that was there before the trace; a status that is known already stays
+abbrev pub process_assignments : Values → ℕ → ThreadKey → ℕ → List ℕ → ℕ → List Assignment
+process_assignments values host thread ppid name status =
+    gives (path.Thread host thread thread_leaf.Name) (Comm name)
+    ∷ gives (path.Thread host thread thread_leaf.Parent) (Int (pos ppid))
+    ∷ (if same_value (values (path.Thread host thread thread_leaf.Status)) Null then found_status (path.Thread host thread thread_leaf.Status) status else [])
+
+-- nothing of an idle thread, whose tid is 0
+abbrev pub unless_idle : ℕ → List Assignment → List Assignment
+unless_idle tid given = if tid == 0 then [] else given
+
+-- what the events assign that neither switch nor wake
+abbrev pub other_assignments : Values → ℕ → ℕ → KernelEvent → List Assignment
+other_assignments values host cpu (Fork parent_tid child_tid child_comm) = forked_assignments host (thread_of child_tid cpu) parent_tid child_comm
+other_assignments values host cpu (Exit tid) = gives (path.Thread host (thread_of tid cpu) thread_leaf.Status) ENDED ∷ gives (path.Thread host (thread_of tid cpu) thread_leaf.Call) Null ∷ []
+other_assignments values host cpu (Free tid) = freed_assignments host (thread_of tid cpu)
+other_assignments values host cpu (Migrate tid dest_cpu) = unless_idle tid (gives (path.Thread host (Tid tid) thread_leaf.Cpu) (Int (pos dest_cpu)) ∷ [])
+other_assignments values host cpu (IrqIn irq) = gives (path.Cpu host cpu cpu_leaf.Irq) (Int (pos irq)) ∷ []
+other_assignments values host cpu (IrqOut irq) = gives (path.Cpu host cpu cpu_leaf.Irq) Null ∷ []
+other_assignments values host cpu (SoftIn vec) = gives (path.Cpu host cpu cpu_leaf.Softirq) (Int (pos vec)) ∷ []
+other_assignments values host cpu (SoftOut vec) = gives (path.Cpu host cpu cpu_leaf.Softirq) Null ∷ []
+other_assignments values host cpu (Process tid ppid name status) = unless_idle tid (process_assignments values host (Tid tid) ppid name status)
+other_assignments values host cpu kind = []
 
 abbrev pub kind_assignments : Values → ℕ → ℕ → KernelEvent → List Assignment
 kind_assignments values host cpu (Switch prev_state prev_tid next_tid prev_prio next_prio prev_comm next_comm) =
-    switch_assignments values host cpu (thread_of prev_tid cpu) (thread_of next_tid cpu) (Switch prev_state prev_tid next_tid prev_prio next_prio prev_comm next_comm)
+    leaving_assignments values host (thread_of prev_tid cpu) prev_state prev_prio prev_comm ++ coming_assignments host cpu next_tid next_prio next_comm
+kind_assignments values host cpu (Wakeup tid comm prio target_cpu) = unless_idle tid (woken_assignments values host (Tid tid) comm prio target_cpu)
+kind_assignments values host cpu (WakeupNew tid comm prio target_cpu) = unless_idle tid (woken_assignments values host (Tid tid) comm prio target_cpu)
+kind_assignments values host cpu (Waking tid comm prio target_cpu) = unless_idle tid (woken_assignments values host (Tid tid) comm prio target_cpu)
+kind_assignments values host cpu kind = other_assignments values host cpu kind
 
 -- what an event assigns, in order; the rules read the values before the event
 abbrev pub assignments : Values → Event → List Assignment

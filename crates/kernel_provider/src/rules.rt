@@ -1,12 +1,16 @@
 //! What each kind of event assigns to attributes.
-ghost use Rattle.std.specs.Prelude.{◌≡◌, ◌<◌, ◌+◌, ◌++◌, ◌∷◌, []};
+ghost use Rattle.std.specs.Prelude.{◌≡◌, ◌<◌, ◌≤◌, ◌+◌, ◌++◌, ◌∷◌, [], pos};
 ghost use Rattle.arrayvec.specs.ArrayVec.{array_vec_len};
-ghost use Rattle.kernel_provider.specs.Rules.{assignments, left_status, gives};
+ghost use Rattle.kernel_provider.specs.Rules.{assignments, coming_assignments, forked_assignments, freed_assignments, gives, leaving_assignments, left_status, other_assignments, process_assignments, unless_idle, woken_assignments};
 ghost use Rattle.kernel_provider.specs.Steps.{value_in};
+ghost use Rattle.trace_types.specs.declared.path.Path.TheVariants as path;
+ghost use Rattle.trace_types.specs.declared.path.ThreadKey.TheVariants.{Tid};
+ghost use Rattle.trace_types.specs.declared.path.ThreadLeaf.TheVariants as thread_leaf;
+ghost use Rattle.trace_types.specs.declared.value.Value.TheVariants.{Int};
 
 use crate::table::Table;
 use arrayvec::ArrayVec;
-use trace_types::{CpuLeaf, Event, KernelEvent, Path, ThreadKey, ThreadLeaf, Value};
+use trace_types::{Comm, CpuLeaf, Event, KernelEvent, Path, ThreadKey, ThreadLeaf, Value};
 
 /// An attribute's next value.
 #[derive(Clone, Copy, Debug, PartialEq, Eq)]
@@ -44,47 +48,225 @@ const ENDED: Value = Value::Int(4);
 pub fn assign(table: &Table, event: &Event, out: &mut Assignments)
     ensures { out.new.items ≡ assignments (value_in table.now.table) event.now }
 {
-    let KernelEvent::Switch {
-        prev_state,
-        prev_tid,
-        next_tid,
-        prev_prio,
-        next_prio,
-        prev_comm,
-        next_comm,
-    } = event.kind;
-    let prev = Thread::of(event, prev_tid);
-    let next = Thread::of(event, next_tid);
     out.clear();
-    let status = prev.at(ThreadLeaf::Status);
-    if table.value_of(&status) != ENDED {
-        give(out, status, left_status(prev_state));
+    match event.kind {
+        KernelEvent::Switch {
+            prev_state,
+            prev_tid,
+            next_tid,
+            prev_prio,
+            next_prio,
+            prev_comm,
+            next_comm,
+        } => {
+            let prev = Thread::of(event, prev_tid);
+            assign_leaving(table, prev, prev_state, prev_prio, prev_comm, out);
+            assign_coming(event, next_tid, next_prio, next_comm, out);
+        }
+        KernelEvent::Wakeup {
+            tid,
+            comm,
+            prio,
+            target_cpu,
+        }
+        | KernelEvent::WakeupNew {
+            tid,
+            comm,
+            prio,
+            target_cpu,
+        }
+        | KernelEvent::Waking {
+            tid,
+            comm,
+            prio,
+            target_cpu,
+        } => assign_woken(table, event, tid, comm, prio, target_cpu, out),
+        _ => assign_other(table, event, out),
     }
-    give(out, prev.at(ThreadLeaf::Name), Value::Comm(prev_comm));
+}
+
+// What the events assign that neither switch nor wake.
+fn assign_other(table: &Table, event: &Event, out: &mut Assignments)
+    requires { array_vec_len out.old ≡ 0 }
+    ensures { out.new.items ≡ other_assignments (value_in table.now.table) event.now.host event.now.cpu event.now.kind }
+{
+    match event.kind {
+        KernelEvent::Fork {
+            parent_tid,
+            child_tid,
+            child_comm,
+        } => assign_forked(Thread::of(event, child_tid), parent_tid, child_comm, out),
+        KernelEvent::Exit { tid } => {
+            let thread = Thread::of(event, tid);
+            give(out, thread.at(ThreadLeaf::Status), ENDED);
+            give(out, thread.at(ThreadLeaf::Call), Value::Null);
+        }
+        KernelEvent::Free { tid } => assign_freed(Thread::of(event, tid), out),
+        KernelEvent::Migrate { tid, dest_cpu } => assign_migrated(event, tid, dest_cpu, out),
+        KernelEvent::IrqIn { irq } => give(out, on_cpu(event, CpuLeaf::Irq), number(irq)),
+        KernelEvent::IrqOut { .. } => give(out, on_cpu(event, CpuLeaf::Irq), Value::Null),
+        KernelEvent::SoftIn { vec } => give(out, on_cpu(event, CpuLeaf::Softirq), number(vec)),
+        KernelEvent::SoftOut { .. } => give(out, on_cpu(event, CpuLeaf::Softirq), Value::Null),
+        KernelEvent::Process {
+            tid,
+            ppid,
+            name,
+            status,
+        } => assign_process(table, event, tid, ppid, name, status, out),
+        _ => {}
+    }
+}
+
+// The thread that leaves its processor.
+fn assign_leaving(
+    table: &Table,
+    thread: Thread,
+    state: i64,
+    prio: i32,
+    comm: Comm,
+    out: &mut Assignments,
+)
+    requires { array_vec_len out.old ≡ 0 }
+    ensures items { out.new.items ≡ out.old.items ++ leaving_assignments (value_in table.now.table) thread.host thread.key state prio comm }
+    ensures len { array_vec_len out.new ≤ 3 }
+{
+    let status = thread.at(ThreadLeaf::Status);
+    if table.value_of(&status) != ENDED {
+        give(out, status, left_status(state));
+    }
+    give(out, thread.at(ThreadLeaf::Name), Value::Comm(comm));
     give(
         out,
-        prev.at(ThreadLeaf::Prio),
-        Value::Int(i64::from(prev_prio)),
+        thread.at(ThreadLeaf::Prio),
+        Value::Int(i64::from(prio)),
     );
-    give(out, next.at(ThreadLeaf::Status), RUNNING);
-    give(out, next.at(ThreadLeaf::Name), Value::Comm(next_comm));
+}
+
+// The thread that comes to its processor.
+fn assign_coming(event: &Event, tid: u32, prio: i32, comm: Comm, out: &mut Assignments)
+    requires { array_vec_len out.old ≤ 3 }
+    ensures { out.new.items ≡ out.old.items ++ coming_assignments event.now.host event.now.cpu tid prio comm }
+{
+    let thread = Thread::of(event, tid);
+    give(out, thread.at(ThreadLeaf::Status), RUNNING);
+    give(out, thread.at(ThreadLeaf::Name), Value::Comm(comm));
+    give(out, thread.at(ThreadLeaf::Cpu), number(event.cpu));
     give(
         out,
-        next.at(ThreadLeaf::Cpu),
-        Value::Int(i64::from(event.cpu)),
+        thread.at(ThreadLeaf::Prio),
+        Value::Int(i64::from(prio)),
     );
+    give(out, on_cpu(event, CpuLeaf::Thread), number(tid));
+}
+
+// A thread that is woken.
+fn assign_woken(
+    table: &Table,
+    event: &Event,
+    tid: u32,
+    comm: Comm,
+    prio: i32,
+    target_cpu: u32,
+    out: &mut Assignments,
+)
+    requires { array_vec_len out.old ≡ 0 }
+    ensures { out.new.items ≡ unless_idle tid (woken_assignments (value_in table.now.table) event.now.host (Tid tid) comm prio target_cpu) }
+{
+    if tid == 0 {
+        return;
+    }
+    let thread = Thread::of(event, tid);
+    give(out, thread.at(ThreadLeaf::Name), Value::Comm(comm));
     give(
         out,
-        next.at(ThreadLeaf::Prio),
-        Value::Int(i64::from(next_prio)),
+        thread.at(ThreadLeaf::Prio),
+        Value::Int(i64::from(prio)),
     );
-    let (host, cpu) = (event.host, event.cpu);
-    let leaf = CpuLeaf::Thread;
-    give(
-        out,
-        Path::Cpu { host, cpu, leaf },
-        Value::Int(i64::from(next_tid)),
-    );
+    let status = thread.at(ThreadLeaf::Status);
+    if table.value_of(&status) != RUNNING {
+        give(out, status, READY);
+        give(out, thread.at(ThreadLeaf::Cpu), number(target_cpu));
+    }
+}
+
+// A thread that is made.
+fn assign_forked(thread: Thread, parent_tid: u32, comm: Comm, out: &mut Assignments)
+    requires { array_vec_len out.old ≡ 0 }
+    ensures { out.new.items ≡ forked_assignments thread.host thread.key parent_tid comm }
+{
+    give(out, thread.at(ThreadLeaf::Status), READY);
+    give(out, thread.at(ThreadLeaf::Name), Value::Comm(comm));
+    give(out, thread.at(ThreadLeaf::Parent), number(parent_tid));
+    give(out, thread.at(ThreadLeaf::Call), Value::Null);
+}
+
+// A thread of which nothing is left.
+fn assign_freed(thread: Thread, out: &mut Assignments)
+    requires { array_vec_len out.old ≡ 0 }
+    ensures { out.new.items ≡ freed_assignments thread.host thread.key }
+{
+    give(out, thread.at(ThreadLeaf::Status), Value::Null);
+    give(out, thread.at(ThreadLeaf::Name), Value::Null);
+    give(out, thread.at(ThreadLeaf::Cpu), Value::Null);
+    give(out, thread.at(ThreadLeaf::Prio), Value::Null);
+    give(out, thread.at(ThreadLeaf::Parent), Value::Null);
+    give(out, thread.at(ThreadLeaf::Call), Value::Null);
+}
+
+fn assign_migrated(event: &Event, tid: u32, dest_cpu: u32, out: &mut Assignments)
+    requires { array_vec_len out.old ≡ 0 }
+    ensures { out.new.items ≡ unless_idle tid (gives (path.Thread event.now.host (Tid tid) thread_leaf.Cpu) (Int (pos dest_cpu)) ∷ []) }
+{
+    if tid != 0 {
+        let thread = Thread::of(event, tid);
+        give(out, thread.at(ThreadLeaf::Cpu), number(dest_cpu));
+    }
+}
+
+// A thread that was there before the trace.
+fn assign_process(
+    table: &Table,
+    event: &Event,
+    tid: u32,
+    ppid: u32,
+    name: Comm,
+    status: u32,
+    out: &mut Assignments,
+)
+    requires { array_vec_len out.old ≡ 0 }
+    ensures { out.new.items ≡ unless_idle tid (process_assignments (value_in table.now.table) event.now.host (Tid tid) ppid name status) }
+{
+    if tid == 0 {
+        return;
+    }
+    let thread = Thread::of(event, tid);
+    give(out, thread.at(ThreadLeaf::Name), Value::Comm(name));
+    give(out, thread.at(ThreadLeaf::Parent), number(ppid));
+    let path = thread.at(ThreadLeaf::Status);
+    if table.value_of(&path) == Value::Null {
+        match status {
+            2 => give(out, path, READY),
+            5 => give(out, path, BLOCKED),
+            _ => {}
+        }
+    }
+}
+
+// An attribute of the event's processor.
+fn on_cpu(event: &Event, leaf: CpuLeaf) -> Path
+    ensures { result ≡ path.Cpu event.now.host event.now.cpu leaf }
+{
+    Path::Cpu {
+        host: event.host,
+        cpu: event.cpu,
+        leaf,
+    }
+}
+
+fn number(n: u32) -> Value
+    ensures { result ≡ Int (pos n) }
+{
+    Value::Int(i64::from(n))
 }
 
 // A thread of a host.

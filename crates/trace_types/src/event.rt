@@ -18,6 +18,70 @@ pub enum KernelEvent {
         prev_comm: Comm,
         next_comm: Comm,
     },
+    /// A sleeping thread became ready. `target_cpu` is the processor on which it waits to run.
+    Wakeup {
+        tid: u32,
+        comm: Comm,
+        prio: i32,
+        target_cpu: u32,
+    },
+    /// A new thread became ready for the first time.
+    WakeupNew {
+        tid: u32,
+        comm: Comm,
+        prio: i32,
+        target_cpu: u32,
+    },
+    /// Somebody began to wake a thread.
+    Waking {
+        tid: u32,
+        comm: Comm,
+        prio: i32,
+        target_cpu: u32,
+    },
+    /// A thread made another.
+    Fork {
+        parent_tid: u32,
+        child_tid: u32,
+        child_comm: Comm,
+    },
+    /// A thread ended.
+    Exit {
+        tid: u32,
+    },
+    /// Nothing is left of a thread that ended, and its tid may be given away again.
+    Free {
+        tid: u32,
+    },
+    /// A thread that is ready or asleep was moved to another processor.
+    Migrate {
+        tid: u32,
+        dest_cpu: u32,
+    },
+    /// A processor began to handle an interrupt.
+    IrqIn {
+        irq: u32,
+    },
+    /// It is done with it.
+    IrqOut {
+        irq: u32,
+    },
+    /// A processor began a soft interrupt.
+    SoftIn {
+        vec: u32,
+    },
+    /// It is done with it.
+    SoftOut {
+        vec: u32,
+    },
+    /// A thread that was there before the trace began, as the tracer's dump of the state tells it.
+    /// A `status` of 2 is that of a thread that waits to run, 5 that of one that is blocked.
+    Process {
+        tid: u32,
+        ppid: u32,
+        name: Comm,
+        status: u32,
+    },
 }
 
 /// An event of one host, with the host's own time in ns.

@@ -1,7 +1,7 @@
 use Rattle.std.proofs.Common.{rules, to_z-of_z}
 use Rattle.std.specs.Int.{w64}
 use Rattle.event_list.proofs.WordLists.{switch_found, no_prev, no_state, no_next}
-use Rattle.event_list.proofs.line.read_switch.Goals as goal
+use Rattle.event_list.proofs.fields.read_switch.Goals as goal
 
 pub returns-in_err-prev-clause-none : goal.returns-in_err-prev-clause-none
 returns-in_err-prev-clause-none c = rw c.from_residual.ensures (no_prev c.args.fields.now c.in_err-prev.ensures.none)

@@ -1,0 +1,71 @@
+-- The words of each kind of event, as its name and its fields.
+use Rattle.std.specs.Prelude.{◌≡◌, ℕ, ℤ, ◌^◌, ◌<◌, List, [], ◌∷◌, codes}
+use Rattle.std.specs.Fmt.{decimal}
+use Rattle.trace_types.specs.ByteTexts.{byte_text}
+use Rattle.trace_types.specs.Comms.{IsName}
+use Rattle.trace_types.specs.declared.event.KernelEvent.{KernelEvent}
+use Rattle.trace_types.specs.declared.event.KernelEvent.TheVariants as kind
+use Rattle.event_list.specs.declared.kind_word.KindWord.{KindWord}
+use Rattle.event_list.specs.declared.kind_word.KindWord.TheVariants.{Switch, Wakeup, WakeupNew, Waking, Fork, Exit, Free, Migrate, IrqIn, IrqOut, SoftIn, SoftOut, Process}
+use Rattle.event_list.specs.Lines.{switch_words, woken_words, IsSwitched, IsWoken}
+
+abbrev pub spelling : KindWord → List ℕ
+spelling Switch = codes "switch"
+spelling Wakeup = codes "wakeup"
+spelling WakeupNew = codes "wakeup-new"
+spelling Waking = codes "waking"
+spelling Fork = codes "fork"
+spelling Exit = codes "exit"
+spelling Free = codes "free"
+spelling Migrate = codes "migrate"
+spelling IrqIn = codes "irq-in"
+spelling IrqOut = codes "irq-out"
+spelling SoftIn = codes "soft-in"
+spelling SoftOut = codes "soft-out"
+spelling Process = codes "process"
+
+-- the one field is this number
+pub record IsOne (fields : List (List ℕ)) (n : ℕ) : Type 0 where
+  pub spelled : fields ≡ decimal n ∷ []
+  pub below : n < 2 ^ 31
+
+-- the fields are those of a switch
+pub record IsSwitch (fields : List (List ℕ)) (s : ℤ) (pt nt : ℕ) (pp np : ℤ) (pc nc : List ℕ) : Type 0 where
+  pub spelled : fields ≡ switch_words s pt nt pp np pc nc
+  pub fit : IsSwitched s pt nt pp np pc nc
+
+-- the fields are those of a wakeup
+pub record IsWakeup (fields : List (List ℕ)) (tid : ℕ) (comm : List ℕ) (prio : ℤ) (cpu : ℕ) : Type 0 where
+  pub spelled : fields ≡ woken_words tid comm prio cpu
+  pub fit : IsWoken tid comm prio cpu
+
+-- the fields are those of a fork
+pub record IsFork (fields : List (List ℕ)) (parent child : ℕ) (comm : List ℕ) : Type 0 where
+  pub spelled : fields ≡ decimal parent ∷ decimal child ∷ byte_text comm ∷ []
+  pub fit : (parent < 2 ^ 31) × (child < 2 ^ 31) × IsName comm
+
+-- the two fields are these numbers
+pub record IsTwo (fields : List (List ℕ)) (m n : ℕ) : Type 0 where
+  pub spelled : fields ≡ decimal m ∷ decimal n ∷ []
+  pub fit : (m < 2 ^ 31) × (n < 2 ^ 31)
+
+-- the fields are those of a thread that was there before
+pub record IsProcess (fields : List (List ℕ)) (tid ppid : ℕ) (name : List ℕ) (status : ℕ) : Type 0 where
+  pub spelled : fields ≡ decimal tid ∷ decimal ppid ∷ byte_text name ∷ decimal status ∷ []
+  pub fit : (tid < 2 ^ 31) × (ppid < 2 ^ 31) × IsName name × (status < 2 ^ 31)
+
+-- the fields are those of an event whose kind has this name
+abbrev pub IsOf : KindWord → List (List ℕ) → KernelEvent → Type 0
+IsOf Switch fields k = (s : ℤ) × (pt : ℕ) × (nt : ℕ) × (pp : ℤ) × (np : ℤ) × (pc : List ℕ) × (nc : List ℕ) × IsSwitch fields s pt nt pp np pc nc × (k ≡ kind.Switch s pt nt pp np pc nc)
+IsOf Wakeup fields k = (tid : ℕ) × (comm : List ℕ) × (prio : ℤ) × (cpu : ℕ) × IsWakeup fields tid comm prio cpu × (k ≡ kind.Wakeup tid comm prio cpu)
+IsOf WakeupNew fields k = (tid : ℕ) × (comm : List ℕ) × (prio : ℤ) × (cpu : ℕ) × IsWakeup fields tid comm prio cpu × (k ≡ kind.WakeupNew tid comm prio cpu)
+IsOf Waking fields k = (tid : ℕ) × (comm : List ℕ) × (prio : ℤ) × (cpu : ℕ) × IsWakeup fields tid comm prio cpu × (k ≡ kind.Waking tid comm prio cpu)
+IsOf Fork fields k = (parent : ℕ) × (child : ℕ) × (comm : List ℕ) × IsFork fields parent child comm × (k ≡ kind.Fork parent child comm)
+IsOf Exit fields k = (n : ℕ) × IsOne fields n × (k ≡ kind.Exit n)
+IsOf Free fields k = (n : ℕ) × IsOne fields n × (k ≡ kind.Free n)
+IsOf IrqIn fields k = (n : ℕ) × IsOne fields n × (k ≡ kind.IrqIn n)
+IsOf IrqOut fields k = (n : ℕ) × IsOne fields n × (k ≡ kind.IrqOut n)
+IsOf SoftIn fields k = (n : ℕ) × IsOne fields n × (k ≡ kind.SoftIn n)
+IsOf SoftOut fields k = (n : ℕ) × IsOne fields n × (k ≡ kind.SoftOut n)
+IsOf Migrate fields k = (tid : ℕ) × (cpu : ℕ) × IsTwo fields tid cpu × (k ≡ kind.Migrate tid cpu)
+IsOf Process fields k = (tid : ℕ) × (ppid : ℕ) × (name : List ℕ) × (status : ℕ) × IsProcess fields tid ppid name status × (k ≡ kind.Process tid ppid name status)
