@@ -10,6 +10,8 @@ mod metadata_packets;
 #[cfg(test)]
 mod metadata_tokens;
 #[cfg(test)]
+mod metadata_types;
+#[cfg(test)]
 mod printed_tokens;
 #[cfg(test)]
 mod printed_trees;

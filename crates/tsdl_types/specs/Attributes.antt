@@ -1,0 +1,116 @@
+-- What the attributes in the braces of an integer say, and where they break their rules (CTF 1.8, section 4.1.1; the limits are this project's own).
+use Rattle.std.specs.Prelude.{ℕ, ℤ, pos, Bool, true, false, ◌&&◌, ◌||◌, if◌then◌else◌, nat_le, nat_eq, List, [], ◌∷◌, ◌++◌, Option, Some, None, is_some, option_and_then, position, unwrap_or, codes, ◌%◌, ◌==◌, int_le, neg_ℤ}
+use Rattle.std.specs.Cmp.Lexicographic.{pointwise}
+use Rattle.std.specs.Int.{is_power_of_two}
+use Rattle.trace_types.specs.declared.byte_order.ByteOrderKind.{ByteOrderKind}
+use Rattle.trace_types.specs.declared.byte_order.ByteOrderKind.TheVariants.{Little, Big}
+use Rattle.tsdl_parser.specs.declared.tree.Attr.{Attr}
+use Rattle.tsdl_parser.specs.declared.tree.AttrValue.{AttrValue}
+use Rattle.tsdl_parser.specs.declared.tree.AttrValue.TheVariants as value
+use Rattle.tsdl_parser.specs.Symbols.{is_text}
+use Rattle.type_table.specs.declared.cause.MetaItemCause.{MetaItemCause}
+use Rattle.type_table.specs.declared.cause.MetaItemCause.TheVariants.{BadAttribute, BadReference}
+use Rattle.type_table.specs.declared.integer.Integer.{Integer}
+use Rattle.type_table.specs.Types.{Text}
+
+abbrev pub same_words : List Text → List Text → Bool
+same_words = pointwise is_text
+
+-- an attribute of this one word
+abbrev pub is_named : Text → Attr → Bool
+is_named name attr = same_words attr.path (name ∷ [])
+
+-- the value is this one word
+abbrev pub is_word : Text → AttrValue → Bool
+is_word word (value.Path words) = same_words words (word ∷ [])
+is_word word _ = false
+
+abbrev pub number_in : ℕ → ℕ → AttrValue → Option ℕ
+number_in low high (value.Signed (pos n)) = if nat_le low n && nat_le n high then Some n else None
+number_in low high _ = None
+
+-- 1 to 64 bits
+abbrev pub size_said : AttrValue → Option ℕ
+size_said = number_in 1 64
+
+-- a power of two from 1 to 65,536
+abbrev pub align_said : AttrValue → Option ℕ
+align_said (value.Signed (pos n)) = if is_power_of_two n && nat_le n 65536 then Some n else None
+align_said _ = None
+
+-- 0, 1, or a word of either case
+abbrev pub sign_said : AttrValue → Option Bool
+sign_said (value.Signed (pos n)) = if nat_eq n 0 then Some false else if nat_eq n 1 then Some true else None
+sign_said v =
+    if is_word (codes "true") v || is_word (codes "TRUE") v then Some true
+    else if is_word (codes "false") v || is_word (codes "FALSE") v then Some false
+    else None
+
+-- network is big endian, and native is the trace's
+abbrev pub order_said : ByteOrderKind → AttrValue → Option ByteOrderKind
+order_said trace v =
+    if is_word (codes "le") v then Some Little
+    else if is_word (codes "be") v || is_word (codes "network") v then Some Big
+    else if is_word (codes "native") v then Some trace
+    else None
+
+-- clock.NAME.value, with the clock's place among those that were declared before
+abbrev pub clock_said : List Text → AttrValue → Option ℕ
+clock_said clocks (value.Path (a ∷ name ∷ b ∷ [])) = if is_text a (codes "clock") && is_text b (codes "value") then position (is_text name) clocks else None
+clock_said clocks _ = None
+
+abbrev pub unless : Bool → MetaItemCause → Option MetaItemCause
+unless holds cause = if holds then None else Some cause
+
+-- an attribute of an integer breaks its rule by itself
+abbrev pub own_fault : ByteOrderKind → List Text → Attr → Option MetaItemCause
+own_fault order clocks attr =
+    if is_named (codes "size") attr then unless (is_some (size_said attr.value)) BadAttribute
+    else if is_named (codes "align") attr then unless (is_some (align_said attr.value)) BadAttribute
+    else if is_named (codes "signed") attr then unless (is_some (sign_said attr.value)) BadAttribute
+    else if is_named (codes "byte_order") attr then unless (is_some (order_said order attr.value)) BadAttribute
+    else if is_named (codes "map") attr then unless (is_some (clock_said clocks attr.value)) BadReference
+    else None
+
+-- it stands among those before
+abbrev pub is_given : List Attr → Attr → Bool
+is_given [] attr = false
+is_given (b ∷ before) attr = same_words b.path attr.path || is_given before attr
+
+-- the value of the first attribute of this name
+abbrev pub value_named : Text → List Attr → Option AttrValue
+value_named name [] = None
+value_named name (a ∷ attrs) = if is_named name a then Some a.value else value_named name attrs
+
+-- what the attribute of this name says, where it stands
+abbrev pub said : {A : Type 0} → (AttrValue → Option A) → Text → List Attr → Option A
+said read name attrs = option_and_then read (value_named name attrs)
+
+abbrev pub or_later : Option MetaItemCause → Option MetaItemCause → Option MetaItemCause
+or_later None later = later
+or_later (Some cause) later = Some cause
+
+-- behind these attributes, the first that stands twice or breaks its rule; at the closing brace, a size that is missing
+abbrev pub first_fault : ByteOrderKind → List Text → List Attr → List Attr → Option MetaItemCause
+first_fault order clocks before [] = unless (is_some (value_named (codes "size") before)) BadAttribute
+first_fault order clocks before (a ∷ attrs) =
+    if is_given before a then Some BadAttribute
+    else or_later (own_fault order clocks a) (first_fault order clocks (before ++ a ∷ []) attrs)
+
+-- 8 where the size is a multiple of 8, else 1
+abbrev pub usual_align : ℕ → ℕ
+usual_align size = if size % 8 == 0 then 8 else 1
+
+abbrev pub integer_of : ByteOrderKind → List Text → List Attr → Integer
+integer_of order clocks attrs = record {
+  size = unwrap_or (said size_said (codes "size") attrs) 0;
+  align = unwrap_or (said align_said (codes "align") attrs) (usual_align (unwrap_or (said size_said (codes "size") attrs) 0));
+  signed = unwrap_or (said sign_said (codes "signed") attrs) false;
+  order = unwrap_or (said (order_said order) (codes "byte_order") attrs) order;
+  clock = said (clock_said clocks) (codes "map") attrs;
+}
+
+-- in the braces of a string: an attribute that stands twice
+abbrev pub is_twice : List Attr → List Attr → Bool
+is_twice before [] = false
+is_twice before (a ∷ attrs) = is_given before a || is_twice (before ++ a ∷ []) attrs

@@ -1,0 +1,21 @@
+//! Why a metadata text is refused.
+use trace_types::OutOfMemory;
+use type_table::MetaItemCause;
+
+/// The first item that breaks a rule, counted from 1, or want of memory.
+#[derive(Clone, Copy, Debug, PartialEq, Eq)]
+pub enum MetaError {
+    Item { item: u64, cause: MetaItemCause },
+    OutOfMemory,
+}
+
+impl From<OutOfMemory> for MetaError {
+    ghost use Rattle.std.specs.Prelude.{◌≡◌};
+    ghost use Rattle.tsdl_types.specs.declared.error.MetaError.TheVariants as variant;
+
+    ghost from_gives = { λ _ e. e ≡ variant.OutOfMemory };
+
+    fn from(_error: OutOfMemory) -> MetaError {
+        MetaError::OutOfMemory
+    }
+}

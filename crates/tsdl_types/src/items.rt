@@ -1,0 +1,116 @@
+//! The items of a text.
+ghost use Rattle.std.specs.Prelude.{◌≡◌, ◌<◌, ◌+◌, ◌^◌, length};
+ghost use Rattle.tsdl_types.specs.Items as items;
+ghost use Rattle.tsdl_types.specs.Items.{Declares, IsRefused, declared_by};
+ghost use Rattle.type_table.specs.Known.{Does};
+ghost use Rattle.type_table.specs.Table.{tree_at};
+ghost use Rattle.tsdl_types.specs.Typing.{looked_at};
+ghost use Rattle.type_table.specs.View.{state};
+
+use crate::enums::enum_type;
+use crate::error::MetaError;
+use crate::types::{struct_type, used_as, variant_type};
+use crate::typing::{declare, new_name};
+use std::alloc::Global;
+use trace_types::ByteOrderKind;
+use tsdl_parser::{Decl, Item};
+use type_table::{Around, Fault, Known, NameKind, Use, Written, spaced};
+
+/// How many braces may be open in a text.
+const MAX_BRACES: u32 = 40;
+
+/// The types that the items of a text declare. Integers that don't tell their byte order have this one. Blocks are
+/// passed over.
+pub fn declare_types(
+    alloc: Global,
+    order: ByteOrderKind,
+    decls: &[Decl],
+) -> Result<Known, MetaError>
+    ensures { Declares (λ k. (state k).known) (declared_by order decls.now) result }
+{
+    let mut types = Known::new(alloc);
+    for at in 0..decls.len() {
+        if let Err(fault) = item_of(&mut types, alloc, order, &decls[at].item) {
+            return Err(refused(at, fault));
+        }
+    }
+    Ok(types)
+}
+
+// The item at this place is refused.
+fn refused(at: usize, fault: Fault) -> MetaError
+    requires { at + 1 < 2 ^ 64 }
+    ensures { IsRefused at fault result }
+{
+    match fault {
+        Fault::Breaks(cause) => MetaError::Item {
+            item: at as u64 + 1,
+            cause,
+        },
+        Fault::OutOfMemory => MetaError::OutOfMemory,
+    }
+}
+
+#[tactic(auto, unfolding(crate::specs::Items::item_of, crate::specs::Typing::used_as, crate::specs::Typing::type_of))]
+fn item_of(types: &mut Known, alloc: Global, order: ByteOrderKind, item: &Item) -> Result<(), Fault>
+    ensures { Does (items.item_of order item.now (state types.old).known) result (state types.new) }
+{
+    let around = outside(order);
+    match item {
+        Item::Alias { ty, words } => {
+            let place = used_as(types, alloc, around, MAX_BRACES, Use::Name, ty)?;
+            let name = Some(spaced(alloc, words.as_slice())?);
+            new_name(types, NameKind::Alias, &name)?;
+            declare(types, alloc, NameKind::Alias, &name, place)
+        }
+        Item::Struct(tree) => {
+            let (place, is_known) = struct_type(types, alloc, around, MAX_BRACES, tree)?;
+            look(types, alloc, around, place, is_known)
+        }
+        Item::Variant(tree) => {
+            let (place, is_known) = variant_type(types, alloc, around, MAX_BRACES, tree)?;
+            look(types, alloc, around, place, is_known)
+        }
+        Item::Enum(tree) => {
+            let (place, is_known) = enum_type(types, alloc, around, tree)?;
+            look(types, alloc, around, place, is_known)
+        }
+        Item::Block { .. } => Ok(()),
+    }
+}
+
+// Looks at the ways in a type that was declared before.
+fn look(
+    types: &mut Known,
+    alloc: Global,
+    around: Around,
+    place: u32,
+    is_known: bool,
+) -> Result<(), Fault>
+    requires { place < length (state types.old).types }
+    ensures { Does (looked_at around is_known (tree_at (state types.old).types place) (state types.old).known) result (state types.new) }
+{
+    if is_known {
+        types.recheck(alloc, around, place)
+    } else {
+        Ok(())
+    }
+}
+
+// Nothing of a block stands around a type of an item.
+fn outside(order: ByteOrderKind) -> Around
+    ensures { result ≡ items.outside order }
+{
+    Around {
+        order,
+        reading: None,
+        written: Written {
+            packet_header: false,
+            packet_context: false,
+            event_header: false,
+            stream_context: false,
+            event_context: false,
+            event_fields: false,
+        },
+    }
+}

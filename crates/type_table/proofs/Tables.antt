@@ -1,0 +1,196 @@
+-- A table with one more type.
+use Rattle.std.proofs.Common.{◌≡◌, ℕ, zero, suc, ◌+◌, ◌<◌, ◌≤◌, ◌++◌, List, [], ◌∷◌, length, map, get_or, slice_get, Some, max, Bool, true, false, ◌&&◌, nat_le, refl, sym, ap, ◌∙◌, subst, arith, append-nil}
+use Rattle.std.proofs.lemmas.List.{length-append, length-map, get_or_append_left, get_or_push, map-append}
+use Rattle.std.proofs.lemmas.Bool.{leb-true}
+use Rattle.type_table.specs.declared.meta.TypeMeta.{TypeMeta}
+use Rattle.type_table.specs.declared.meta.TypeMeta.TheVariants as meta
+use Rattle.type_table.specs.declared.facts.Facts.{Facts}
+use Rattle.type_table.specs.declared.meta.FieldMeta.{FieldMeta}
+use Rattle.type_table.specs.Types.{Text, Ty, Fields, Field, No, Str, MAX_DEPTH, MAX_PARTS, depth, parts, Named, Struct, Variant, Array, Sequence, fits, widest, parts_of_all}
+use Rattle.type_table.specs.Facts.{facts_of, facts_at, meta_facts, are_fit, AreFit, no_sum, sum_of}
+use Rattle.type_table.specs.Table.{Table, Grows, Keeps, AreRanked, IsTable, trees, trees_from, tree, tree_at, grown, shape, FieldsIn, fields_at, integer_in, labels_at, name_at, way_of, way_or_here, NamesIn, RefersIn, IsBased}
+use Rattle.type_table.proofs.Trees.{trees_len, trees_push, trees_more, ranked_push}
+use Rattle.type_table.proofs.Factual.{IsSum, factual, facts_known, is_sum}
+
+along : {A B : Type 0} (f : A → B) (x y : A) → x ≡ y → f x ≡ f y
+along f x y h = ap f h
+
+abbrev of : List Text → List TypeMeta → Table
+of names types = record { names = names; types = types }
+
+pub trees_count : (names : List Text) (types : List TypeMeta) → length (trees (of names types)) ≡ length types
+trees_count names types = omega (arith, trees_len names [] types)
+
+pub facts_count : (names : List Text) (types : List TypeMeta) (facts : List Facts) (n : ℕ) → IsTable (of names types) facts → n < length types → n < length facts
+facts_count names types facts n t h =
+    let count = along length _ _ t.known ∙ length-map (trees (of names types)) facts_of ∙ trees_count names types in
+    omega (arith, count, h)
+
+pub facts_stand : (names : List Text) (types : List TypeMeta) (facts : List Facts) (n : ℕ) → IsTable (of names types) facts → n < length types → facts_at facts n ≡ facts_of (tree (of names types) n)
+facts_stand names types facts n t h = along (λ fs. facts_at fs n) _ _ t.known ∙ facts_known (trees (of names types)) n (omega (arith, h, trees_count names types))
+
+-- the facts of the next type
+pub next_facts : (names : List Text) (types : List TypeMeta) (facts : List Facts) (t : TypeMeta) → IsTable (of names types) facts → RefersIn (length types) t → IsBased (trees (of names types)) t
+    → meta_facts facts t ≡ facts_of (shape names (trees (of names types)) t)
+next_facts names types facts t table refers based =
+    along (λ fs. meta_facts fs t) _ _ table.known ∙ factual names (trees (of names types)) t (subst (λ n. RefersIn n t) (sym (trees_count names types)) refers) based
+
+fit_push : (facts : List Facts) (f : Facts) → AreFit facts → are_fit f ≡ true → AreFit (facts ++ f ∷ [])
+fit_push [] f h e = (e, tt)
+fit_push (g ∷ facts) f h e = (h.0, fit_push facts f h.1 e)
+
+pub keeps_type : (names : List Text) (types : List TypeMeta) (facts : List Facts) (t : TypeMeta) (f : Facts) → IsTable (of names types) facts → NamesIn (length names) t → RefersIn (length types) t → IsBased (trees (of names types)) t
+    → f ≡ meta_facts facts t → are_fit f ≡ true → IsTable (of names (types ++ t ∷ [])) (facts ++ f ∷ [])
+keeps_type names types facts t f table in_names refers based is fit = record {
+  ranked = ranked_push (length names) 0 types t table.ranked in_names (subst (λ n. RefersIn n t) (omega arith) refers);
+  known = along (λ fs. fs ++ f ∷ []) _ _ table.known
+      ∙ along (λ g. map facts_of (trees (of names types)) ++ g ∷ []) _ _ (is ∙ next_facts names types facts t table refers based)
+      ∙ sym (map-append facts_of (trees (of names types)) (shape names (trees (of names types)) t ∷ []))
+      ∙ along (map facts_of) _ _ (sym (trees_push names [] types t));
+  fit = fit_push facts f table.fit fit;
+}
+
+pub tree_pushed : (names : List Text) (types : List TypeMeta) (t : TypeMeta) → tree (of names (types ++ t ∷ [])) (length types) ≡ shape names (trees (of names types)) t
+tree_pushed names types t =
+    along (λ ts. tree_at ts (length types)) _ _ (trees_push names [] types t) ∙ get_or_push (trees (of names types)) (shape names (trees (of names types)) t) Str (length types) (trees_count names types)
+
+pub grows_type : (names : List Text) (types : List TypeMeta) (t : TypeMeta) → Grows (of names types) (of names (types ++ t ∷ []))
+grows_type names types t = record { more_names = []; more_types = t ∷ []; names = sym (append-nil names); types = refl }
+
+facts_length : (names : List Text) (types : List TypeMeta) (facts : List Facts) → IsTable (of names types) facts → length facts ≡ length types
+facts_length names types facts t = along length _ _ t.known ∙ length-map (trees (of names types)) facts_of ∙ trees_count names types
+
+pub facts_refer : (names : List Text) (types : List TypeMeta) (facts : List Facts) (t : TypeMeta) → IsTable (of names types) facts → RefersIn (length types) t → RefersIn (length facts) t
+facts_refer names types facts t table refers = subst (λ n. RefersIn n t) (sym (facts_length names types facts table)) refers
+
+pub fits_by : (names : List Text) (types : List TypeMeta) (facts : List Facts) (t : TypeMeta) (b : Bool) → IsTable (of names types) facts → RefersIn (length types) t → IsBased (trees (of names types)) t → are_fit (meta_facts facts t) ≡ b
+    → fits (shape names (trees (of names types)) t) ≡ b
+fits_by names types facts t b table refers based fit = along are_fit _ _ (sym (next_facts names types facts t table refers based)) ∙ fit
+
+pub within_push : (types : List TypeMeta) (t : TypeMeta) → length types < length (types ++ t ∷ [])
+within_push types t = omega (arith, length-append types (t ∷ []))
+
+trees_prefix : (names : List Text) (done : List Ty) (more : List TypeMeta) (n : ℕ) → n < length done → tree_at (trees_from names done more) n ≡ tree_at done n
+trees_prefix names done [] n h = refl
+trees_prefix names done (t ∷ more) n h =
+    trees_prefix names (grown names done t) more n (omega (arith, h, length-append done (shape names done t ∷ []))) ∙ get_or_append_left done (shape names done t ∷ []) Str n h
+
+trees_joined : (names : List Text) (done : List Ty) (ts more : List TypeMeta) → trees_from names done (ts ++ more) ≡ trees_from names (trees_from names done ts) more
+trees_joined names done [] more = refl
+trees_joined names done (t ∷ ts) more = trees_joined names (grown names done t) ts more
+
+pub keeps : (old new : Table) → AreRanked (length old.names) 0 old.types → Grows old new → Keeps old new
+keeps old new ranked g = record {
+  names = λ n h. along (λ l. get_or l n []) _ _ g.names ∙ get_or_append_left old.names g.more_names [] n h;
+  types = λ n h. along (λ l. tree (of l new.types) n) _ _ g.names ∙ along (λ l. tree (of (old.names ++ g.more_names) l) n) _ _ g.types
+      ∙ along (λ ts. tree_at ts n) _ _ (trees_joined (old.names ++ g.more_names) [] old.types g.more_types)
+      ∙ along (λ ts. tree_at (trees_from (old.names ++ g.more_names) ts g.more_types) n) _ _ (trees_more old.names g.more_names 0 [] old.types ranked)
+      ∙ trees_prefix (old.names ++ g.more_names) (trees old) g.more_types n (omega (arith, h, trees_count old.names old.types));
+  more_names = omega (arith, along length _ _ g.names, length-append old.names g.more_names);
+  more_types = omega (arith, along length _ _ g.types, length-append old.types g.more_types);
+}
+
+-- the sum of fields tells of their trees
+pub sums : (names : List Text) (types : List TypeMeta) (facts : List Facts) (fs : List FieldMeta) → IsTable (of names types) facts → FieldsIn (length types) fs → IsSum no_sum (fields_at names (trees (of names types)) fs) (sum_of facts fs)
+sums names types facts fs table refers =
+    subst (λ x. IsSum no_sum (fields_at names (trees (of names types)) fs) (sum_of x fs)) (sym table.known)
+    (is_sum names (trees (of names types)) no_sum fs (subst (λ n. FieldsIn n fs) (sym (trees_count names types)) refers) (omega arith))
+
+pub fields_known : (names : List Text) (types : List TypeMeta) (facts : List Facts) (fs : List FieldMeta) → IsTable (of names types) facts → FieldsIn (length types) fs → FieldsIn (length facts) fs
+fields_known names types facts fs table refers = subst (λ n. FieldsIn n fs) (sym (facts_length names types facts table)) refers
+
+max_one : (fs : Fields) → max 1 (widest fs) ≡ widest fs
+max_one No = refl
+max_one (Field name ty fs) = omega (arith, max_one fs)
+
+pub widest_sum : (names : List Text) (types : List TypeMeta) (facts : List Facts) (fs : List FieldMeta) → IsTable (of names types) facts → FieldsIn (length types) fs → (sum_of facts fs).align ≡ widest (fields_at names (trees (of names types)) fs)
+widest_sum names types facts fs table refers = (sums names types facts fs table refers).align ∙ max_one (fields_at names (trees (of names types)) fs)
+
+pub parts_sum : (names : List Text) (types : List TypeMeta) (facts : List Facts) (fs : List FieldMeta) → IsTable (of names types) facts → FieldsIn (length types) fs → (sum_of facts fs).parts ≡ parts_of_all (fields_at names (trees (of names types)) fs)
+parts_sum names types facts fs table refers = omega (arith, (sums names types facts fs table refers).parts)
+
+-- ---- a type at its place
+
+ranked_at : (n k : ℕ) (ts : List TypeMeta) (i : ℕ) (t : TypeMeta) → AreRanked n k ts → slice_get ts i ≡ Some t → NamesIn n t × RefersIn (k + i) t
+ranked_at n k [] i t r e = absurd (cc)
+ranked_at n k (u ∷ ts) zero t r e = let same : u ≡ t = cc in (subst (NamesIn n) same r.0, subst (RefersIn (k + 0)) same (subst (λ m. RefersIn m u) (omega arith) r.1))
+ranked_at n k (u ∷ ts) (suc i) t r e =
+    let later = ranked_at n (k + 1) ts i t r.2 e in
+    (later.0, subst (λ m. RefersIn m t) (omega arith) later.1)
+
+fields_up : (n m : ℕ) (fs : List FieldMeta) → n ≤ m → FieldsIn n fs → FieldsIn m fs
+fields_up n m [] le h = tt
+fields_up n m (f ∷ fs) le h = (omega (arith, le, h.0), fields_up n m fs le h.1)
+
+refers_up : (n m : ℕ) (t : TypeMeta) → n ≤ m → RefersIn n t → RefersIn m t
+refers_up n m (meta.Integer size align signed order clock) le h = tt
+refers_up n m (meta.Enum base labels) le h = omega (arith, le, h)
+refers_up n m meta.Str le h = tt
+refers_up n m (meta.Struct align fields) le h = fields_up n m fields le h
+refers_up n m (meta.Variant tag fields) le h = fields_up n m fields le h
+refers_up n m (meta.Array count item) le h = omega (arith, le, h)
+refers_up n m (meta.Sequence count item) le h = omega (arith, le, h)
+
+split_at : (ts : List TypeMeta) (i : ℕ) (t : TypeMeta) → slice_get ts i ≡ Some t → (before after : List TypeMeta) × (ts ≡ before ++ t ∷ after) × (length before ≡ i)
+split_at [] i t e = absurd (cc)
+split_at (u ∷ ts) zero t e = let same : u ≡ t = cc in ([], ts, along (λ x. x ∷ ts) _ _ same, refl)
+split_at (u ∷ ts) (suc i) t e =
+    let rest = split_at ts i t e in
+    (u ∷ rest.0, rest.1, along (λ l. u ∷ l) _ _ rest.2, omega (arith, rest.3))
+
+shape_keeps : (names : List Text) (few all : List Ty) (t : TypeMeta) → ((n : ℕ) → n < length few → tree_at all n ≡ tree_at few n) → RefersIn (length few) t → shape names few t ≡ shape names all t
+shape_keeps names few all (meta.Integer size align signed order clock) same h = refl
+shape_keeps names few all (meta.Enum base labels) same h = along (λ x. Named (integer_in x) (labels_at names labels)) _ _ (sym (same base h))
+shape_keeps names few all meta.Str same h = refl
+shape_keeps names few all (meta.Struct align fields) same h = along (Struct align) _ _ (fields_keep fields h)
+  where
+    fields_keep : (fs : List FieldMeta) → FieldsIn (length few) fs → fields_at names few fs ≡ fields_at names all fs
+    fields_keep [] h = refl
+    fields_keep (f ∷ fs) h = along (λ x. Field (name_at names f.name) x (fields_at names few fs)) _ _ (sym (same f.ty h.0)) ∙ along (Field (name_at names f.name) (tree_at all f.ty)) _ _ (fields_keep fs h.1)
+shape_keeps names few all (meta.Variant tag fields) same h = along (Variant (way_of names tag)) _ _ (fields_keep fields h)
+  where
+    fields_keep : (fs : List FieldMeta) → FieldsIn (length few) fs → fields_at names few fs ≡ fields_at names all fs
+    fields_keep [] h = refl
+    fields_keep (f ∷ fs) h = along (λ x. Field (name_at names f.name) x (fields_at names few fs)) _ _ (sym (same f.ty h.0)) ∙ along (Field (name_at names f.name) (tree_at all f.ty)) _ _ (fields_keep fs h.1)
+shape_keeps names few all (meta.Array count item) same h = along (Array count) _ _ (sym (same item h))
+shape_keeps names few all (meta.Sequence count item) same h = along (Sequence (way_or_here (way_of names count))) _ _ (sym (same item h))
+
+-- the tree of a place, by the trees of all
+pub tree_is : (names : List Text) (types : List TypeMeta) (i : ℕ) (t : TypeMeta) → AreRanked (length names) 0 types → slice_get types i ≡ Some t → tree (of names types) i ≡ shape names (trees (of names types)) t
+tree_is names types i t r e = by (split_at types i t e)
+  where
+    by : ((before after : List TypeMeta) × (types ≡ before ++ t ∷ after) × (length before ≡ i)) → tree (of names types) i ≡ shape names (trees (of names types)) t
+    by (before, after, is, at) =
+        let refers = (ranked_at (length names) 0 types i t r e).1 in
+        let few = trees_from names [] before in
+        let count : length few ≡ i = omega (arith, trees_len names [] before, at) in
+        let all_is : trees (of names types) ≡ trees_from names (grown names few t) after = along (trees_from names []) _ _ is ∙ trees_joined names [] before (t ∷ after) in
+        let here = along (λ ts. tree_at ts i) _ _ all_is ∙ trees_prefix names (grown names few t) after i (omega (arith, count, length-append few (shape names few t ∷ []))) ∙ get_or_push few (shape names few t) Str i count in
+        let same : (n : ℕ) → n < length few → tree_at (trees (of names types)) n ≡ tree_at few n = λ n h. along (λ ts. tree_at ts n) _ _ all_is ∙ trees_prefix names (grown names few t) after n (omega (arith, h, length-append few (shape names few t ∷ []))) ∙ get_or_append_left few (shape names few t ∷ []) Str n h in
+        here ∙ shape_keeps names few (trees (of names types)) t same (subst (λ m. RefersIn m t) (omega (arith, count)) refers)
+
+pub place_refers : (names : List Text) (types : List TypeMeta) (i : ℕ) (t : TypeMeta) → AreRanked (length names) 0 types → i < length types → slice_get types i ≡ Some t → RefersIn (length types) t
+place_refers names types i t r h e = refers_up i (length types) t (omega (arith, h)) (subst (λ m. RefersIn m t) (omega arith) (ranked_at (length names) 0 types i t r e).1)
+
+pub place_names : (names : List Text) (types : List TypeMeta) (i : ℕ) (t : TypeMeta) → AreRanked (length names) 0 types → slice_get types i ≡ Some t → NamesIn (length names) t
+place_names names types i t r e = (ranked_at (length names) 0 types i t r e).0
+
+pub place_ranked : (names : List Text) (types : List TypeMeta) (i : ℕ) (t : TypeMeta) → AreRanked (length names) 0 types → slice_get types i ≡ Some t → RefersIn i t
+place_ranked names types i t r e = subst (λ m. RefersIn m t) (omega arith) (ranked_at (length names) 0 types i t r e).1
+
+fit_at : (facts : List Facts) (n : ℕ) (d : Facts) → n < length facts → AreFit facts → are_fit (get_or facts n d) ≡ true
+fit_at [] n d h fit = absurd (omega (arith, h))
+fit_at (f ∷ facts) zero d h fit = fit.0
+fit_at (f ∷ facts) (suc n) d h fit = fit_at facts n d (omega (arith, h)) fit.1
+
+both_hold : (a b : Bool) → (a && b) ≡ true → (a ≡ true) × (b ≡ true)
+both_hold true b h = (refl, h)
+both_hold false b h = absurd (cc)
+
+-- every type is within the limits
+pub limited : (names : List Text) (types : List TypeMeta) (facts : List Facts) (n : ℕ) → IsTable (of names types) facts → n < length types → (depth (tree (of names types) n) ≤ MAX_DEPTH) × (parts (tree (of names types) n) ≤ MAX_PARTS)
+limited names types facts n table h =
+    let here = fit_at facts n (record { align = 0; depth = 0; parts = 0; may_be_empty = false }) (facts_count names types facts n table h) table.fit in
+    let same = along are_fit _ _ (sym (facts_stand names types facts n table h)) ∙ here in
+    let both = both_hold (nat_le (depth (tree (of names types) n)) MAX_DEPTH) (nat_le (parts (tree (of names types) n)) MAX_PARTS) same in
+    (leb-true _ _ both.0, leb-true _ _ both.1)

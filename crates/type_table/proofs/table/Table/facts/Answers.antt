@@ -1,0 +1,13 @@
+use Rattle.std.proofs.Common.{rules}
+use Rattle.type_table.proofs.Tables.{facts_count, facts_stand}
+use Rattle.type_table.proofs.table.Table.facts.Goals as goal
+
+pub facts_at-requires : goal.facts_at-requires
+facts_at-requires c =
+    let count = facts_count c.self.inside.names.keys c.self.inside.types c.self.inside.facts c.args.place c.self.invariant (search rules) in
+    search rules
+
+pub returns : goal.returns
+returns c =
+    let stands = facts_stand c.self.inside.names.keys c.self.inside.types c.self.inside.facts c.args.place c.self.invariant (search rules) in
+    search rules

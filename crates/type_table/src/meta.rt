@@ -1,0 +1,75 @@
+//! Types as they are kept: each names others by their places.
+use sqlite_items::Items;
+use trace_types::{ByteOrderKind, Text};
+
+/// A place in `types`, below that of the type that names it.
+type TypePlace = u32;
+
+#[derive(Debug, Drop)]
+pub enum TypeMeta {
+    /// `size` bits, from 1 to 64, aligned to `align` bits, a power of two. `map` is a place among the clocks.
+    Integer {
+        size: u32,
+        align: u32,
+        signed: bool,
+        order: ByteOrderKind,
+        map: Option<u32>,
+    },
+    Enum {
+        base: TypePlace,
+        labels: Items<LabelMeta>,
+    },
+    /// Bytes up to a zero byte.
+    Str,
+    /// `align` is the greatest alignment of a field, or a greater one that was asked for.
+    Struct {
+        align: u32,
+        fields: Items<FieldMeta>,
+    },
+    Variant {
+        tag: Reference,
+        fields: Items<FieldMeta>,
+    },
+    Array {
+        length: u64,
+        item: TypePlace,
+    },
+    Sequence {
+        length: Reference,
+        item: TypePlace,
+    },
+}
+
+/// A label for the values from `low` to `high`. `name` is a place in `names`.
+#[derive(Clone, Copy, Debug, PartialEq, Eq)]
+pub struct LabelMeta {
+    pub name: u32,
+    pub low: i128,
+    pub high: i128,
+}
+
+/// A field. `name` is a place in `names`.
+#[derive(Clone, Copy, Debug, PartialEq, Eq)]
+pub struct FieldMeta {
+    pub name: u32,
+    pub ty: TypePlace,
+}
+
+/// A way to a field that was read before: from a scope's type where it begins with one, else from the
+/// structures around it. The words are places in `names`.
+#[derive(Debug, Drop)]
+pub struct Reference {
+    pub scope: Option<ScopeName>,
+    pub words: Items<u32>,
+}
+
+/// What is read of a packet and an event, in this order.
+#[derive(Clone, Copy, Debug, PartialEq, Eq)]
+pub enum ScopeName {
+    PacketHeader,
+    PacketContext,
+    EventHeader,
+    StreamContext,
+    EventContext,
+    EventFields,
+}

@@ -1,0 +1,152 @@
+//! The types of a text, each by its place, and the names that they use.
+ghost use Rattle.std.specs.Prelude.{◌≡◌, ◌<◌, ◌↔◌, ◌≤◌, [], IsTrue, length, true, false, IfNone, IfOk, IfSome, OnOk};
+ghost use Rattle.type_table.specs.Facts.{facts_of};
+ghost use Rattle.type_table.specs.Faults.{OnBreak};
+ghost use Rattle.type_table.specs.Table.{FieldsIn, IsBased, Keeps, NamesIn, RefersIn, fields_at, name_at, shape, tree, trees};
+ghost use Rattle.type_table.specs.Types.{MAX_DEPTH, MAX_PARTS, depth, fits, parts, parts_of_all, widest};
+ghost use Rattle.type_table.specs.declared.cause.MetaItemCause.TheVariants as causes;
+
+use crate::cause::MetaItemCause;
+use crate::facts::{Facts, facts_at, meta_facts, sum_of};
+use crate::fault::Fault;
+use crate::meta::{FieldMeta, TypeMeta};
+use indexmap::IndexSet;
+use sqlite_items::Items;
+use std::alloc::Global;
+use std::marker::Model;
+use trace_types::{OutOfMemory, Text};
+
+/// Types by their places, and names by their numbers. Contracts see both lists.
+#[derive(Debug, Drop)]
+pub struct Table {
+    names: IndexSet<Text>,
+    types: Items<TypeMeta>,
+    facts: Items<Facts>,
+}
+
+impl Model for Table {
+    ghost use Rattle.type_table.specs.Table.{Table as SpecTable, IsTable};
+
+    ghost Value = { SpecTable };
+
+    ghost view = { λ t. record { names = t.names.keys; types = t.types } };
+
+    ghost invariant = { λ t. IsTable (record { names = t.names.keys; types = t.types }) t.facts };
+}
+
+impl Table {
+    /// No type. It takes no memory.
+    pub fn new(alloc: Global) -> Table
+        ensures { result ≡ record { names = []; types = [] } }
+    {
+        Table {
+            names: IndexSet::new(alloc),
+            types: Items::new(alloc),
+            facts: Items::new(alloc),
+        }
+    }
+
+    /// The number of a name, which it gets where it has none.
+    #[tactic(auto, using(crate::proofs::Keeping::keeps_same))]
+    pub fn intern(&mut self, alloc: Global, name: &Text) -> Result<u32, OutOfMemory>
+        ensures keeps { Keeps self.old self.new }
+        ensures trees_stay { OnOk result (trees self.new ≡ trees self.old) }
+        ensures named { IfOk result (λ n. (n < length self.new.names) × (name_at self.new.names n ≡ name.now)) }
+    {
+        if let Some(number) = self.names.get_index_of(name) {
+            return u32::try_from(number).map_err(|_| OutOfMemory);
+        }
+        let Ok(number) = u32::try_from(self.names.len()) else {
+            return Err(OutOfMemory);
+        };
+        let name = Text::from_bytes(alloc, name.as_bytes())?;
+        self.names.insert_full(name)?;
+        Ok(number)
+    }
+
+    /// What is known of a type.
+    pub fn facts(&self, place: u32) -> Facts
+        requires { place < length self.now.types }
+        ensures { result ≡ facts_of (tree self.now place) }
+    {
+        facts_at(self.facts.as_slice(), place)
+    }
+
+    /// Adds a type, whose place is the number of those before it. It is refused where it goes too deep or
+    /// consists of too many types.
+    #[tactic(auto, using(crate::proofs::Keeping::keeps_same))]
+    pub fn push(&mut self, meta: TypeMeta) -> Result<u32, Fault>
+        requires names { NamesIn (length self.old.names) meta }
+        requires refers { RefersIn (length self.old.types) meta }
+        requires based { IsBased (trees self.old) meta }
+        ensures keeps { Keeps self.old self.new }
+        ensures names_stay { OnOk result (self.new.names ≡ self.old.names) }
+        ensures place { IfOk result (λ p. (p < length self.new.types) × (tree self.new p ≡ shape self.old.names (trees self.old) meta)) }
+        ensures fits { OnOk result (fits (shape self.old.names (trees self.old) meta) ≡ true) }
+        ensures breaks { OnBreak (λ cause. (cause ≡ causes.BadAttribute) × (fits (shape self.old.names (trees self.old) meta) ≡ false)) result }
+    {
+        let Some(facts) = meta_facts(self.facts.as_slice(), &meta) else {
+            return Err(Fault::Breaks(MetaItemCause::BadAttribute));
+        };
+        let Ok(place) = u32::try_from(self.types.len()) else {
+            return Err(Fault::OutOfMemory);
+        };
+        self.facts.push(facts)?;
+        if self.types.push(meta).is_err() {
+            self.facts.pop();
+            return Err(Fault::OutOfMemory);
+        }
+        Ok(place)
+    }
+
+    /// The greatest alignment of a field. `None` comes where the fields consist of too many types.
+    pub fn widest(&self, fields: &[FieldMeta]) -> Option<u32>
+        requires { FieldsIn (length self.now.types) fields.now }
+        ensures found { IfSome result (λ align. align ≡ widest (fields_at self.now.names (trees self.now) fields.now)) }
+        ensures none { IfNone result (MAX_PARTS < parts_of_all (fields_at self.now.names (trees self.now) fields.now)) }
+    {
+        Some(sum_of(self.facts.as_slice(), fields)?.align)
+    }
+
+    /// The type of a place.
+    pub fn get(&self, place: u32) -> &TypeMeta
+        requires { place < length self.now.types }
+        ensures kind { tree self.now place ≡ shape self.now.names (trees self.now) result.now }
+        ensures refers { RefersIn (length self.now.types) result.now }
+        ensures ranked { RefersIn place result.now }
+        ensures names { NamesIn (length self.now.names) result.now }
+    {
+        &self.types.as_slice()[place as usize]
+    }
+
+    /// The name of a number.
+    pub fn name(&self, number: u32) -> &[u8]
+        requires { number < length self.now.names }
+        ensures { result.now ≡ name_at self.now.names number }
+    {
+        self.names[number as usize].as_bytes()
+    }
+
+    /// How many types there are.
+    pub fn len(&self) -> usize
+        ensures { result ≡ length self.now.types }
+    {
+        self.types.len()
+    }
+
+    /// Whether there is none.
+    pub fn is_empty(&self) -> bool
+        ensures { IsTrue result ↔ (length self.now.types ≡ 0) }
+    {
+        self.types.len() == 0
+    }
+
+    /// The limits hold for a type. It does nothing.
+    pub fn limits(&self, place: u32)
+        requires { place < length self.now.types }
+        ensures depth { depth (tree self.now place) ≤ MAX_DEPTH }
+        ensures parts { parts (tree self.now place) ≤ MAX_PARTS }
+    {
+        let _ = &self.facts;
+    }
+}

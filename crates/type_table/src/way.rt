@@ -1,0 +1,30 @@
+//! What a reference is for.
+
+/// The field that a reference leads to.
+#[derive(Clone, Copy, Debug, PartialEq, Eq)]
+pub enum Want {
+    /// An enumeration, the tag of a variant.
+    Tag,
+    /// An unsigned integer, the length of a list.
+    Length,
+}
+
+/// What is said of a reference where it stands.
+#[derive(Clone, Copy, Debug, PartialEq, Eq)]
+pub enum Judgement {
+    Holds,
+    Breaks,
+    /// The end of the block decides, for the scope's entry is still to come.
+    Waits,
+}
+
+/// What a type is used as.
+#[derive(Clone, Copy, Debug, PartialEq, Eq)]
+pub enum Use {
+    /// The type of a field, or of what is in a list.
+    Field,
+    /// The type of a scope.
+    Scope,
+    /// A type that gets a name, or nothing but a look.
+    Name,
+}
