@@ -4,6 +4,10 @@
 #[cfg(test)]
 mod bits;
 #[cfg(test)]
+mod metadata_blocks;
+#[cfg(test)]
+mod metadata_cases;
+#[cfg(test)]
 mod metadata_declarations;
 #[cfg(test)]
 mod metadata_packets;

@@ -1,51 +1,8 @@
 //! The types of metadata texts, and the first item that breaks a rule.
-use std::alloc::AllocGlobal;
+use crate::metadata_cases::{all_are_refused, all_are_typed, refused_behind};
 use std::io::Write;
-use std::process::Abort;
 use std::test::Fail;
-use trace_types::ByteOrderKind;
-use tsdl_lex::tokens;
-use tsdl_parser::parse;
-use tsdl_types::{MetaError, declare_types};
 use type_table::MetaItemCause;
-
-// Two items stand before each text below: a block, and an alias of a byte.
-const BEFORE: &[u8] = b"trace { byte_order = le; }; typealias integer { size = 8; } := b; ";
-
-// The number of the first item that is refused, and the cause.
-fn refused<R: AllocGlobal + Abort>(
-    rt: &R,
-    text: &[u8],
-) -> Result<Option<(u64, MetaItemCause)>, Fail> {
-    let mut whole = Vec::new(rt.alloc());
-    whole.extend_from_slice(BEFORE)?;
-    whole.extend_from_slice(text)?;
-    let found = tokens(rt.alloc(), &whole)?;
-    let decls = parse(rt.alloc(), &found)?;
-    match declare_types(rt.alloc(), ByteOrderKind::Little, &decls) {
-        Ok(_) => Ok(None),
-        Err(MetaError::Item { item, cause }) => Ok(Some((item, cause))),
-        Err(MetaError::OutOfMemory) => panic!(rt; "memory"),
-    }
-}
-
-fn all_are_typed<R: AllocGlobal + Abort>(rt: &R, texts: &[&str]) -> Result<(), Fail> {
-    for text in texts {
-        assert!(rt; refused(rt, text.as_bytes())?.is_none());
-    }
-    Ok(())
-}
-
-// Each text, the number of the item that is refused, and the cause.
-fn all_are_refused<R: AllocGlobal + Abort>(
-    rt: &R,
-    table: &[(&str, u64, MetaItemCause)],
-) -> Result<(), Fail> {
-    for (text, item, cause) in table {
-        assert_eq!(rt; refused(rt, text.as_bytes())?, Some((*item, *cause)));
-    }
-    Ok(())
-}
 
 #[test]
 fn integers(rt: HostRuntime) -> Result<(), Fail> {
@@ -454,10 +411,10 @@ fn thirty_two_structures_in_one_another(rt: HostRuntime) -> Result<(), Fail> {
             number - 1
         )?;
     }
-    assert!(rt; refused(&rt, &text)?.is_none());
+    assert!(rt; refused_behind(&rt, &text)?.is_none());
     write!(&mut text, " struct t32 {{ struct t31 a; }};")?;
     assert_eq!(rt;
-        refused(&rt, &text)?,
+        refused_behind(&rt, &text)?,
         Some((34, MetaItemCause::BadAttribute))
     );
     Ok(())
@@ -477,10 +434,10 @@ fn types_of_too_many(rt: HostRuntime) -> Result<(), Fail> {
             number - 1
         )?;
     }
-    assert!(rt; refused(&rt, &text)?.is_none());
+    assert!(rt; refused_behind(&rt, &text)?.is_none());
     write!(&mut text, " struct s16 {{ struct s15 a; struct s15 c; }};")?;
     assert_eq!(rt;
-        refused(&rt, &text)?,
+        refused_behind(&rt, &text)?,
         Some((18, MetaItemCause::BadAttribute))
     );
     Ok(())

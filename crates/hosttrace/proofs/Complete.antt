@@ -1,23 +1,28 @@
 -- What a status means leaves valid input without a fault no answer but Done and NoMemory.
-use Rattle.std.proofs.Common.{◌≡◌, ◌⊎◌, inl, inr, ℕ, List, [], Option, Some, refl, ap, subst, ⊎_elim, arith}
-use Rattle.std.specs.Prelude.{IfSome}
+use Rattle.std.proofs.Common.{◌≡◌, ◌⊎◌, inl, inr, ℕ, ◌+◌, ◌≤◌, List, [], ◌∷◌, length, map, codes, Option, Some, None, refl, ap, subst, ⊎_elim, arith}
+use Rattle.std.specs.List.{AllByRecursion}
+use Rattle.std.specs.Prelude.{IfSome, IsSome}
 use Rattle.ht_outside.specs.Files.{Files, bytes_of}
 use Rattle.trace_types.specs.declared.event.Merged.{Merged}
+use Rattle.known_types.specs.Traces.{Trace}
+use Rattle.trace_metadata.specs.Files.{IsTrace}
+use Rattle.trace_metadata.proofs.OneTrace.{not_refused}
 use Rattle.history_core.specs.declared.question.Question.{Question}
 use Rattle.hosttrace.specs.declared.command.Command.{Command}
 use Rattle.hosttrace.specs.declared.command.Command.TheVariants.{Plain}
 use Rattle.hosttrace.specs.declared.command.PlainCommand.{PlainCommand}
-use Rattle.hosttrace.specs.declared.command.PlainCommand.TheVariants.{State, Ask}
+use Rattle.hosttrace.specs.declared.command.PlainCommand.TheVariants.{Check, State, Ask}
 use Rattle.hosttrace.specs.declared.command.Input.TheVariants as input
 use Rattle.hosttrace.specs.declared.status.ListFile.TheVariants.{Events, Questions}
-use Rattle.hosttrace.specs.declared.status.Limit.TheVariants.{File}
 use Rattle.hosttrace.specs.declared.status.Limit.TheVariants as limit
 use Rattle.hosttrace.specs.declared.status.Status.{Status}
 use Rattle.hosttrace.specs.declared.status.Status.TheVariants.{Done, Usage, Refused, ReadFault, WriteFault, NoMemory}
 use Rattle.hosttrace.specs.declared.status.Refusal.{Refusal}
-use Rattle.hosttrace.specs.declared.status.Refusal.TheVariants.{BadList, TooLarge}
+use Rattle.hosttrace.specs.declared.status.Refusal.TheVariants.{NoMetadata, BadMetadata, BadList, TooLarge}
 use Rattle.hosttrace.specs.Inputs.{IsList, ListRefuses, AreAsked, QuestionsRefuse}
-use Rattle.hosttrace.specs.Means.{Refuses, IsGood}
+use Rattle.hosttrace.specs.Folders.{FILES_LIMIT, HOST_LIMIT, METADATA_LIMIT, AreRead, FoldersRefuse, HasManyNames, IsRead, NamesRefuse, SizeRefuses, metadata_of}
+use Rattle.hosttrace.specs.Hosts.{AreTraces, HostsRefuse, MetadataRefuses}
+use Rattle.hosttrace.specs.Means.{AreChecked, CheckRefuses, IsCrowd, Refuses, IsGood}
 use Rattle.hosttrace.specs.Outcome.{Seen, Means, IsValid, IsFaultless, IsOutcome}
 use Rattle.hosttrace.proofs.WordPlaces.{same_command}
 
@@ -28,16 +33,90 @@ told seen files P e h = subst (λ o. IfSome o P) e h
 good_list : (bytes : List ℕ) (refusal : Refusal) → ListRefuses bytes refusal → (events : List Merged) → IsList bytes events → ⊥
 good_list bytes (BadList Events line) h events g = h.1 events g.is_list
 good_list bytes (BadList Questions line) h events g = h
-good_list bytes (TooLarge File) h events g = let small = g.small in absurd (omega (arith, h, small))
+good_list bytes (NoMetadata host) h events g = h
+good_list bytes (BadMetadata host cause) h events g = h
+good_list bytes (TooLarge limit.Hosts) h events g = h
+good_list bytes (TooLarge limit.Names) h events g = h
+good_list bytes (TooLarge limit.Metadata) h events g = h
+good_list bytes (TooLarge limit.Files) h events g = h
+good_list bytes (TooLarge limit.File) h events g = let small = g.small in absurd (omega (arith, h, small))
 good_list bytes (TooLarge limit.Questions) h events g = h
 
 good_questions : (bytes : List ℕ) (refusal : Refusal) → QuestionsRefuse bytes refusal → (questions : List Question) → AreAsked bytes questions → ⊥
 good_questions bytes (BadList Events line) h questions g = h
 good_questions bytes (BadList Questions line) h questions g = h.2 questions g.are_questions
-good_questions bytes (TooLarge File) h questions g = let small = g.small in absurd (omega (arith, h, small))
+good_questions bytes (NoMetadata host) h questions g = h
+good_questions bytes (BadMetadata host cause) h questions g = h
+good_questions bytes (TooLarge limit.Hosts) h questions g = h
+good_questions bytes (TooLarge limit.Names) h questions g = h
+good_questions bytes (TooLarge limit.Metadata) h questions g = h
+good_questions bytes (TooLarge limit.Files) h questions g = h
+good_questions bytes (TooLarge limit.File) h questions g = let small = g.small in absurd (omega (arith, h, small))
 good_questions bytes (TooLarge limit.Questions) h questions g = let few = g.few in absurd (omega (arith, h.1, few))
 
+-- folders that can be read aren't refused
+there_and_not : (file : Option (List ℕ)) → IsSome file → file ≡ None → ⊥
+there_and_not file there none = let h : IsSome {T = List ℕ} None = subst IsSome none there in absurd (cc)
+
+good_names : (files : Files) (host before : ℕ) (dir : List ℕ) (refusal : Refusal) → NamesRefuse files host dir refusal → ¬ (HasManyNames files dir) → IsRead files before dir → ⊥
+good_names files host before dir (TooLarge limit.Names) h few is = few h
+good_names files host before dir (NoMetadata n) h few is = there_and_not (files dir (codes "metadata")) is.there h.2
+good_names files host before dir (BadMetadata n cause) h few is = h
+good_names files host before dir (BadList file line) h few is = h
+good_names files host before dir (TooLarge limit.Hosts) h few is = h
+good_names files host before dir (TooLarge limit.Metadata) h few is = h
+good_names files host before dir (TooLarge limit.File) h few is = h
+good_names files host before dir (TooLarge limit.Files) h few is = h
+good_names files host before dir (TooLarge limit.Questions) h few is = h
+
+good_size : (before size : ℕ) (refusal : Refusal) → SizeRefuses before size refusal → size ≤ METADATA_LIMIT → before + size ≤ FILES_LIMIT → ⊥
+good_size before size (TooLarge limit.Metadata) h small all = absurd (omega (arith, h, small))
+good_size before size (TooLarge limit.Files) h small all = absurd (omega (arith, h.1, all))
+good_size before size (TooLarge limit.Names) h small all = h
+good_size before size (NoMetadata n) h small all = h
+good_size before size (BadMetadata n cause) h small all = h
+good_size before size (BadList file line) h small all = h
+good_size before size (TooLarge limit.Hosts) h small all = h
+good_size before size (TooLarge limit.File) h small all = h
+good_size before size (TooLarge limit.Questions) h small all = h
+
+good_folders : (files : Files) (host before : ℕ) (dirs : List (List ℕ)) (refusal : Refusal) → FoldersRefuse files host before dirs refusal → AllByRecursion (λ dir. ¬ (HasManyNames files dir)) dirs → AreRead files before dirs → ⊥
+good_folders files host before [] refusal h few are = h
+good_folders files host before (dir ∷ dirs) refusal (inl (inl h)) few are = good_names files host before dir refusal h few.0 are.0
+good_folders files host before (dir ∷ dirs) refusal (inl (inr h)) few are = good_size before (length (metadata_of files dir)) refusal h.1 are.0.small are.0.all
+good_folders files host before (dir ∷ dirs) refusal (inr h) few are = good_folders files (host + 1) (before + length (metadata_of files dir)) dirs refusal h.1 few.1 are.1
+
+-- metadata that declares a trace isn't refused
+good_host : (host : ℕ) (bytes : List ℕ) (refusal : Refusal) (t : Trace) → MetadataRefuses host bytes refusal → IsTrace bytes t → ⊥
+good_host host bytes (BadMetadata n cause) t h is = not_refused bytes t cause is h.1
+good_host host bytes (NoMetadata n) t h is = h
+good_host host bytes (BadList file line) t h is = h
+good_host host bytes (TooLarge what) t h is = h
+
+good_hosts : (host : ℕ) (files : List (List ℕ)) (refusal : Refusal) (ts : List Trace) → HostsRefuse host files refusal → AreTraces files ts → ⊥
+good_hosts host [] refusal ts h are = h
+good_hosts host (bytes ∷ files) refusal [] h are = are
+good_hosts host (bytes ∷ files) refusal (t ∷ ts) (inl h) are = good_host host bytes refusal t h are.0
+good_hosts host (bytes ∷ files) refusal (t ∷ ts) (inr h) are = good_hosts (host + 1) files refusal ts h.1 are.1
+
+good_crowd : (folders : List (List ℕ)) (refusal : Refusal) → IsCrowd folders refusal → length folders ≤ HOST_LIMIT → ⊥
+good_crowd folders (TooLarge limit.Hosts) h few = absurd (omega (arith, h, few))
+good_crowd folders (TooLarge limit.Names) h few = h
+good_crowd folders (TooLarge limit.Metadata) h few = h
+good_crowd folders (TooLarge limit.File) h few = h
+good_crowd folders (TooLarge limit.Files) h few = h
+good_crowd folders (TooLarge limit.Questions) h few = h
+good_crowd folders (NoMetadata n) h few = h
+good_crowd folders (BadMetadata n cause) h few = h
+good_crowd folders (BadList file line) h few = h
+
+good_check : (files : Files) (folders : List (List ℕ)) (refusal : Refusal) → CheckRefuses files folders refusal → AreChecked files folders → ⊥
+good_check files folders refusal (inl h) g = good_crowd folders refusal h g.few
+good_check files folders refusal (inr (few, inl h)) g = good_folders files 0 0 folders refusal h g.few_names g.are_read
+good_check files folders refusal (inr (few, inr h)) g = good_hosts 0 (map (metadata_of files) folders) refusal g.traces h.1 g.are_traces
+
 good : (c : PlainCommand) (files : Files) (refusal : Refusal) → Refuses c files refusal → IsGood c files → ⊥
+good (Check folders) files refusal h g = good_check files folders refusal h g
 good (State (input.List file) at) files refusal h g = good_list (bytes_of files [] file) refusal h g.0 g.1
 good (Ask (input.List file) questions) files refusal (inl h) g = good_list (bytes_of files [] file) refusal h g.0.0 g.0.1
 good (Ask (input.List file) questions) files refusal (inr h) g = good_questions (bytes_of files [] questions) refusal h.1 g.1.0 g.1.1

@@ -8,4 +8,5 @@ pub mod AnswerLines
 pub mod Refused
 pub mod Written
 pub mod Complete
+pub mod Left
 pub mod Partly

@@ -1,12 +1,13 @@
 -- Words by place.
-use Rattle.std.proofs.Common.{◌≡◌, ℕ, zero, suc, ◌<◌, ◌≤◌, ◌^◌, List, [], ◌∷◌, length, map, get_or, codes, refl, sym, ap, ◌∙◌, arith, Bool, true, false, not, eqb}
+use Rattle.std.specs.Prelude.{IsTrue}
+use Rattle.std.proofs.Common.{drop, subst, ◌≡◌, ℕ, zero, suc, ◌<◌, ◌≤◌, ◌^◌, List, [], ◌∷◌, length, map, get_or, codes, refl, sym, ap, ◌∙◌, arith, Bool, true, false, not, eqb}
 use Rattle.std.specs.Cmp.Lexicographic.{pointwise, bytes_decides}
 use Rattle.std.specs.Fmt.{decimal}
 use Rattle.trace_types.proofs.Decimals.{same_number, below_wide}
-use Rattle.hosttrace.specs.Words.{IsCommand}
+use Rattle.hosttrace.specs.Words.{IsCommand, IsCheckCommand, IsListCommand, are_file_words}
 use Rattle.hosttrace.specs.declared.command.Command.{Command}
 use Rattle.hosttrace.specs.declared.command.Command.TheVariants.{Plain}
-use Rattle.hosttrace.specs.declared.command.PlainCommand.TheVariants.{State, Ask}
+use Rattle.hosttrace.specs.declared.command.PlainCommand.TheVariants.{Check, State, Ask}
 use Rattle.hosttrace.specs.declared.command.Input.TheVariants as input
 
 module _ {A : Type 0} (text : A → List ℕ) where
@@ -33,17 +34,47 @@ same_text b xs ys zs e f is = sym is ∙ (bytes_decides ys zs).0 (by (pointwise 
     by true h = refl
     by false h = absurd (cc)
 
--- the two commands begin differently
+-- commands begin differently
 state_is_not_ask : (xs ys : List (List ℕ)) → codes "state" ∷ xs ≡ codes "ask" ∷ ys → ⊥
 state_is_not_ask xs ys e = absurd (omega (arith, ap (λ l. get_or (get_or l 0 []) 0 0) e))
 
+check_is_not_state : (xs ys : List (List ℕ)) → codes "check" ∷ xs ≡ codes "state" ∷ ys → ⊥
+check_is_not_state xs ys e = absurd (omega (arith, ap (λ l. get_or (get_or l 0 []) 0 0) e))
+
+check_is_not_ask : (xs ys : List (List ℕ)) → codes "check" ∷ xs ≡ codes "ask" ∷ ys → ⊥
+check_is_not_ask xs ys e = absurd (omega (arith, ap (λ l. get_or (get_or l 0 []) 0 0) e))
+
 -- the third word is no instant
-pub no_time : (ws rest : List (List ℕ)) (t : List ℕ) → ws ≡ codes "state" ∷ codes "--at" ∷ t ∷ rest → ((n : ℕ) → n < 2 ^ 62 → t ≡ decimal n → ⊥) → (c : Command) → IsCommand ws c → ⊥
+pub no_time : (ws rest : List (List ℕ)) (t : List ℕ) → ws ≡ codes "state" ∷ codes "--at" ∷ t ∷ rest → ((n : ℕ) → n < 2 ^ 62 → t ≡ decimal n → ⊥) → (c : Command) → IsListCommand ws c → ⊥
 no_time ws rest t same none (Plain (State (input.List file) at)) h = none at h.at_below (ap (λ l. get_or l 2 []) (sym same ∙ h.words_are))
 no_time ws rest t same none (Plain (Ask (input.List file) questions)) h = state_is_not_ask _ _ (sym same ∙ h.words_are)
+no_time ws rest t same none (Plain (Check folders)) h = h
 
--- the words of a state command, and of a command with questions, name one file and one instant or question file
+-- words that are neither a command over folders nor one over a list are none
+pub no_command : (ws : List (List ℕ)) → ((folders : List (List ℕ)) → IsCheckCommand ws folders → ⊥) → ((c : Command) → IsListCommand ws c → ⊥) → (c : Command) → IsCommand ws c → ⊥
+no_command ws check listed (Plain (Check folders)) h = check folders h
+no_command ws check listed (Plain (State (input.List file) at)) h = listed (Plain (State (input.List file) at)) h
+no_command ws check listed (Plain (Ask (input.List file) questions)) h = listed (Plain (Ask (input.List file) questions)) h
+
+-- words that begin with the name of the command over folders are none other
+pub only_check : (ws words : List (List ℕ)) → words ≡ codes "check" ∷ ws → ((0 < length ws) × IsTrue (are_file_words ws) → ⊥) → (c : Command) → IsCommand words c → ⊥
+only_check ws words e bad (Plain (Check folders)) h = let same : ws ≡ folders = ap (drop 1) (sym e ∙ h.words_are) in bad (subst (λ l. (0 < length l) × IsTrue (are_file_words l)) (sym same) (h.some, h.are_folders))
+only_check ws words e bad (Plain (State (input.List file) at)) h = check_is_not_state _ _ (sym e ∙ h.words_are)
+only_check ws words e bad (Plain (Ask (input.List file) questions)) h = check_is_not_ask _ _ (sym e ∙ h.words_are)
+
+-- words that don't begin with it are no command over folders
+pub not_check : (ws folders : List (List ℕ)) → (get_or ws 0 [] ≡ codes "check" → ⊥) → IsCheckCommand ws folders → ⊥
+not_check ws folders other h = other (ap (λ l. get_or l 0 []) h.words_are)
+
+-- the words of a command name one list of folders, one file and one instant or question file
 pub same_command : (ws : List (List ℕ)) (c d : Command) → IsCommand ws c → IsCommand ws d → c ≡ d
+same_command ws (Plain (Check folders)) (Plain (Check others)) h g =
+    let same : folders ≡ others = ap (drop 1) (sym h.words_are ∙ g.words_are) in
+    λ i. Plain (Check (same i))
+same_command ws (Plain (Check folders)) (Plain (State (input.List other) then)) h g = absurd (check_is_not_state _ _ (sym h.words_are ∙ g.words_are))
+same_command ws (Plain (Check folders)) (Plain (Ask (input.List other) asked)) h g = absurd (check_is_not_ask _ _ (sym h.words_are ∙ g.words_are))
+same_command ws (Plain (State (input.List file) at)) (Plain (Check folders)) h g = absurd (check_is_not_state _ _ (sym g.words_are ∙ h.words_are))
+same_command ws (Plain (Ask (input.List file) questions)) (Plain (Check folders)) h g = absurd (check_is_not_ask _ _ (sym g.words_are ∙ h.words_are))
 same_command ws (Plain (State (input.List file) at)) (Plain (State (input.List other) then)) h g =
     let e = sym h.words_are ∙ g.words_are in
     let file_is : file ≡ other = ap (λ l. get_or l 4 []) e in

@@ -29,9 +29,8 @@ FailsBy Refuses files faults faults_after NoMemory = Unit {0}
 
 -- why bytes are refused as a file of any kind
 abbrev pub FileRefuses : List ℕ → Refusal → Type 0
-FileRefuses bytes (BadList file line) = ⊥
 FileRefuses bytes (TooLarge File) = LIST_LIMIT < length bytes
-FileRefuses bytes (TooLarge limit.Questions) = ⊥
+FileRefuses bytes _ = ⊥
 
 -- the bytes are the event list of these events, within the limit
 pub record IsList (bytes : List ℕ) (events : List Merged) : Type 0 where
@@ -41,9 +40,8 @@ pub record IsList (bytes : List ℕ) (events : List Merged) : Type 0 where
 -- why bytes are refused as an event list
 abbrev pub ListRefuses : List ℕ → Refusal → Type 0
 ListRefuses bytes (BadList Events line) = (length bytes ≤ LIST_LIMIT) × ((events : List Merged) → ¬ (IsEventList bytes events)) × IsFirstBad bytes line
-ListRefuses bytes (BadList Questions line) = ⊥
 ListRefuses bytes (TooLarge File) = LIST_LIMIT < length bytes
-ListRefuses bytes (TooLarge limit.Questions) = ⊥
+ListRefuses bytes _ = ⊥
 
 -- the bytes are these questions, within the limits
 pub record AreAsked (bytes : List ℕ) (questions : List Question) : Type 0 where
@@ -53,8 +51,8 @@ pub record AreAsked (bytes : List ℕ) (questions : List Question) : Type 0 wher
 
 -- why bytes are refused as a question file
 abbrev pub QuestionsRefuse : List ℕ → Refusal → Type 0
-QuestionsRefuse bytes (BadList Events line) = ⊥
 QuestionsRefuse bytes (BadList Questions line) =
     (length bytes ≤ LIST_LIMIT) × (count_by is_feed bytes ≤ QUESTION_LIMIT) × ((questions : List Question) → ¬ (AreQuestions bytes questions)) × IsFirstBadQuestion bytes line
 QuestionsRefuse bytes (TooLarge File) = LIST_LIMIT < length bytes
 QuestionsRefuse bytes (TooLarge limit.Questions) = (length bytes ≤ LIST_LIMIT) × (QUESTION_LIMIT < count_by is_feed bytes)
+QuestionsRefuse bytes _ = ⊥

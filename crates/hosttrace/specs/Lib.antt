@@ -7,6 +7,8 @@ pub mod StateText
 pub mod Questions
 pub mod AnswersText
 pub mod Inputs
+pub mod Folders
+pub mod Hosts
 pub mod Means
 pub mod Outcome
 pub mod Writing

@@ -4,14 +4,15 @@ use Rattle.std.specs.Fmt.{decimal}
 use Rattle.std.specs.Io.KnownBytes.{Appends}
 use Rattle.ht_outside.specs.Faults.{HasRisen}
 use Rattle.hosttrace.specs.Writing.{AppendsFront}
+use Rattle.trace_metadata.specs.Causes.{cause_text}
 use Rattle.event_list.specs.declared.list.ListError.{ListError}
 use Rattle.event_list.specs.declared.list.ListError.TheVariants as list
 use Rattle.hosttrace.specs.declared.questions.QuestionsError.{QuestionsError}
 use Rattle.hosttrace.specs.declared.questions.QuestionsError.TheVariants as questions
 use Rattle.hosttrace.specs.declared.status.Refusal.{Refusal}
-use Rattle.hosttrace.specs.declared.status.Refusal.TheVariants.{BadList, TooLarge}
+use Rattle.hosttrace.specs.declared.status.Refusal.TheVariants.{NoMetadata, BadMetadata, BadList, TooLarge}
 use Rattle.hosttrace.specs.declared.status.ListFile.TheVariants.{Events, Questions}
-use Rattle.hosttrace.specs.declared.status.Limit.TheVariants.{File}
+use Rattle.hosttrace.specs.declared.status.Limit.{Limit}
 use Rattle.hosttrace.specs.declared.status.Limit.TheVariants as limit
 use Rattle.hosttrace.specs.declared.status.Status.{Status}
 use Rattle.hosttrace.specs.declared.status.Status.TheVariants.{Done, Usage, Refused, ReadFault, WriteFault, NoMemory}
@@ -24,11 +25,20 @@ code_of ReadFault = 3
 code_of WriteFault = 4
 code_of NoMemory = 5
 
+abbrev pub limit_text : Limit → List ℕ
+limit_text limit.Hosts = codes "hosts"
+limit_text limit.Names = codes "names"
+limit_text limit.Metadata = codes "metadata"
+limit_text limit.File = codes "file"
+limit_text limit.Files = codes "files"
+limit_text limit.Questions = codes "questions"
+
 abbrev pub refusal_text : Refusal → List ℕ
+refusal_text (NoMetadata host) = codes "host " ++ decimal host ++ codes ": no metadata"
+refusal_text (BadMetadata host cause) = codes "host " ++ decimal host ++ codes ": metadata " ++ cause_text cause
 refusal_text (BadList Events line) = codes "list line " ++ decimal line
 refusal_text (BadList Questions line) = codes "questions line " ++ decimal line
-refusal_text (TooLarge File) = codes "too large: file"
-refusal_text (TooLarge limit.Questions) = codes "too large: questions"
+refusal_text (TooLarge what) = codes "too large: " ++ limit_text what
 
 -- the line that tells a status; Done has none
 abbrev pub status_line : Status → List ℕ

@@ -1,14 +1,28 @@
 -- The command set (this project's own).
-use Rattle.std.specs.Prelude.{◌≡◌, ◌≢◌, ℕ, ◌^◌, ◌<◌, List, [], ◌∷◌, length, slice_index, codes}
+use Rattle.std.specs.Prelude.{◌≡◌, ℕ, ◌^◌, ◌<◌, ◌==◌, ◌&&◌, Bool, true, false, not, IsTrue, List, [], ◌∷◌, length, codes}
 use Rattle.std.specs.Fmt.{decimal}
 use Rattle.hosttrace.specs.declared.command.Command.{Command}
 use Rattle.hosttrace.specs.declared.command.Command.TheVariants.{Plain}
-use Rattle.hosttrace.specs.declared.command.PlainCommand.TheVariants.{State, Ask}
+use Rattle.hosttrace.specs.declared.command.PlainCommand.TheVariants.{Check, State, Ask}
 use Rattle.hosttrace.specs.declared.command.Input.TheVariants as input
 
--- a word that can name a file: it isn't empty and doesn't begin with a minus sign
+-- a word that can name a file or a folder: it isn't empty and doesn't begin with a minus sign
+abbrev pub is_file_word : List ℕ → Bool
+is_file_word [] = false
+is_file_word (b ∷ bs) = not (b == 45)
+
 abbrev pub IsFileWord : List ℕ → Type 0
-IsFileWord word = (0 < length word) × (slice_index word 0 ≢ 45)
+IsFileWord word = IsTrue (is_file_word word)
+
+abbrev pub are_file_words : List (List ℕ) → Bool
+are_file_words [] = true
+are_file_words (w ∷ ws) = is_file_word w && are_file_words ws
+
+-- `check FOLDER..`, with at least one folder
+pub record IsCheckCommand (words folders : List (List ℕ)) : Type 0 where
+  pub words_are : words ≡ codes "check" ∷ folders
+  pub some : 0 < length folders
+  pub are_folders : IsTrue (are_file_words folders)
 
 -- `state --at T --list FILE`, with T from 0 to 2^62 - 1
 pub record IsStateCommand (words : List (List ℕ)) (file : List ℕ) (at : ℕ) : Type 0 where
@@ -24,5 +38,12 @@ pub record IsAskCommand (words : List (List ℕ)) (file questions : List ℕ) : 
 
 -- the words are this command
 abbrev pub IsCommand : List (List ℕ) → Command → Type 0
+IsCommand words (Plain (Check folders)) = IsCheckCommand words folders
 IsCommand words (Plain (State (input.List file) at)) = IsStateCommand words file at
 IsCommand words (Plain (Ask (input.List file) questions)) = IsAskCommand words file questions
+
+-- the words are this command over an event list
+abbrev pub IsListCommand : List (List ℕ) → Command → Type 0
+IsListCommand words (Plain (Check folders)) = ⊥
+IsListCommand words (Plain (State (input.List file) at)) = IsStateCommand words file at
+IsListCommand words (Plain (Ask (input.List file) questions)) = IsAskCommand words file questions

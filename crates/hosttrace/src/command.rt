@@ -1,4 +1,5 @@
 //! What the words ask for.
+use sqlite_items::Items;
 use trace_types::Text;
 
 /// Where events come from.
@@ -11,6 +12,8 @@ pub enum Input {
 /// A command that runs on one thread.
 #[derive(Debug, Drop)]
 pub enum PlainCommand {
+    /// What the metadata of these folders declares, each of one host.
+    Check { folders: Items<Text> },
     /// The state at an instant, in ns.
     State { input: Input, at: u64 },
     /// The answers to the questions of a file.

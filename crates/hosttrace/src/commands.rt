@@ -2,17 +2,19 @@
 ghost use Rattle.std.specs.Prelude.{◌≡◌, [], IfOk, IfErr, IfSome, map, string_bytes};
 ghost use Rattle.ht_outside.specs.Files.{bytes_of};
 ghost use Rattle.hosttrace.specs.Inputs.{FailsBy};
-ghost use Rattle.hosttrace.specs.Means.{IsOutput, IsStateOutput, IsAskOutput, Refuses};
+ghost use Rattle.hosttrace.specs.Means.{IsOutput, IsCheckOutput, IsStateOutput, IsAskOutput, Refuses};
 ghost use Rattle.hosttrace.specs.Outcome.{IsOutcome, Leaves, PlainLeaves, PlainMeans};
 ghost use Rattle.hosttrace.specs.Statuses.{IsTold};
-ghost use Rattle.hosttrace.specs.declared.command.PlainCommand.TheVariants.{State, Ask};
+ghost use Rattle.hosttrace.specs.declared.command.PlainCommand.TheVariants.{Check, State, Ask};
 ghost use Rattle.hosttrace.specs.declared.command.Input.TheVariants as input;
 
 use crate::answers_text::answers_text;
 use crate::command::{Command, Input, PlainCommand};
+use crate::folders::{is_crowd, read_folders};
+use crate::hosts::{check_text, read_hosts};
 use crate::inputs::{read_asked, read_events};
 use crate::state_text::state_text;
-use crate::status::Status;
+use crate::status::{Limit, Refusal, Status};
 use crate::status_line::write_status;
 use crate::words::{WordsError, parse_words};
 use crate::writing::write_text;
@@ -124,6 +126,7 @@ fn text_of<S: Store>(
     ensures keeps { S.holds store.new ≡ S.holds store.old }
 {
     match command {
+        PlainCommand::Check { folders } => text_of_check(alloc, folders.as_slice(), store),
         PlainCommand::State { input, at } => {
             let Input::List(file) = input;
             text_of_state(alloc, file, *at, store)
@@ -132,6 +135,28 @@ fn text_of<S: Store>(
             let Input::List(file) = input;
             text_of_ask(alloc, file, questions, store)
         }
+    }
+}
+
+// What the metadata of folders declares.
+fn text_of_check<S: Store>(
+    alloc: Global,
+    folders: &[Text],
+    store: &mut S,
+) -> Result<Vec<u8>, Status>
+    ensures text { IfOk result (λ text. IfSome (S.holds store.old) (λ files. IsCheckOutput files folders.now text.items)) }
+    ensures fails { IfErr result (λ status. FailsBy (Refuses (Check folders.now)) (S.holds store.old) (S.faults store.old) (S.faults store.new) status) }
+    ensures keeps { S.holds store.new ≡ S.holds store.old }
+{
+    if is_crowd(folders) {
+        let what = Limit::Hosts;
+        return Err(Status::Refused(Refusal::TooLarge { what }));
+    }
+    let files = read_folders(alloc, folders, store)?;
+    let metas = read_hosts(alloc, &files)?;
+    match check_text(alloc, &metas) {
+        Ok(text) => Ok(text),
+        Err(OutOfMemory) => Err(Status::NoMemory),
     }
 }
 

@@ -15,6 +15,9 @@ use ht_outside::Store;
 use std::alloc::Global;
 use trace_types::Text;
 
+/// How many bytes a list may have.
+const LIST_LIMIT: usize = 268_435_456;
+
 impl From<ListError> for Status {
     ghost use Rattle.std.specs.Prelude.{◌≡◌};
     ghost use Rattle.hosttrace.specs.Statuses.{list_status};
@@ -92,7 +95,7 @@ fn read_bytes<S: Store>(alloc: Global, file: &Text, store: &mut S) -> Result<Vec
     ensures grows { S.faults store.old ≤ S.faults store.new }
     ensures keeps { S.holds store.new ≡ S.holds store.old }
 {
-    match read_file(alloc, store, b"", file.as_bytes()) {
+    match read_file(alloc, store, b"", file.as_bytes(), LIST_LIMIT) {
         Ok(bytes) => Ok(bytes),
         Err(ReadError::Fault) => Err(Status::ReadFault),
         Err(ReadError::TooLarge) => Err(Status::Refused(Refusal::TooLarge { what: Limit::File })),

@@ -4,6 +4,8 @@
 mod answers_text;
 mod command;
 mod commands;
+mod folders;
+mod hosts;
 mod inputs;
 mod questions;
 mod reading;

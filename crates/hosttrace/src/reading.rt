@@ -1,5 +1,5 @@
 //! Reading a whole file of a store.
-ghost use Rattle.std.specs.Prelude.{◌≡◌, ◌<◌, ◌≤◌, ◌≢◌, ◌+◌, length, Err, IfOk, OnOk, IfSome};
+ghost use Rattle.std.specs.Prelude.{◌≡◌, ◌<◌, ◌≤◌, ◌≢◌, ◌+◌, ◌^◌, length, Err, IfOk, OnOk, IfSome};
 ghost use Rattle.ht_outside.specs.Faults.{HasRisen};
 ghost use Rattle.ht_outside.specs.Files.{bytes_of};
 ghost use Rattle.hosttrace.specs.Reading.{HasPart};
@@ -7,9 +7,6 @@ ghost use Rattle.hosttrace.specs.declared.reading.ReadError.TheVariants.{Fault, 
 
 use ht_outside::{Store, StoreError};
 use std::alloc::{AllocError, AllocFailed, Global};
-
-/// How many bytes a list may have.
-pub const FILE_LIMIT: usize = 268_435_456;
 
 /// How many bytes are asked for at a time.
 const BUFFER_SIZE: usize = 65_536;
@@ -33,23 +30,25 @@ impl From<AllocError> for ReadError {
     }
 }
 
-/// Reads a file from its first byte to its last. One that isn't there has no bytes.
+/// Reads a file of at most so many bytes from its first to its last. One that isn't there has no bytes.
 pub fn read_file<S: Store>(
     alloc: Global,
     store: &mut S,
     dir: &[u8],
     name: &[u8],
+    limit: usize,
 ) -> Result<Vec<u8>, ReadError>
+    requires { limit < 2 ^ 62 }
     ensures bytes { IfOk result (λ v. IfSome (S.holds store.old) (λ files. v.items ≡ bytes_of files dir.now name.now)) }
-    ensures small { IfOk result (λ v. length v.items ≤ FILE_LIMIT) }
-    ensures large { result ≡ Err TooLarge → IfSome (S.holds store.old) (λ files. FILE_LIMIT < length (bytes_of files dir.now name.now)) }
+    ensures small { IfOk result (λ v. length v.items ≤ limit) }
+    ensures large { result ≡ Err TooLarge → IfSome (S.holds store.old) (λ files. limit < length (bytes_of files dir.now name.now)) }
     ensures fault { result ≡ Err Fault → HasRisen (S.faults store.old) (S.faults store.new) }
     ensures grows { S.faults store.old ≤ S.faults store.new }
     ensures keeps { S.holds store.new ≡ S.holds store.old }
 {
     let mut buffer = zeros(alloc, BUFFER_SIZE)?;
     let mut bytes = Vec::new(alloc);
-    read_all(store, dir, name, &mut buffer, &mut bytes)?;
+    read_all(store, dir, name, limit, &mut buffer, &mut bytes)?;
     Ok(bytes)
 }
 
@@ -65,20 +64,22 @@ fn read_all<S: Store>(
     store: &mut S,
     dir: &[u8],
     name: &[u8],
+    limit: usize,
     buffer: &mut [u8],
     bytes: &mut Vec<u8>,
 ) -> Result<(), ReadError>
+    requires limit { limit < 2 ^ 62 }
     requires buffer { 0 < length buffer.old }
     requires empty { length bytes.old.items ≡ 0 }
     ensures bytes { OnOk result (IfSome (S.holds store.old) (λ files. bytes.new.items ≡ bytes_of files dir.now name.now)) }
-    ensures small { OnOk result (length bytes.new.items ≤ FILE_LIMIT) }
-    ensures large { result ≡ Err TooLarge → IfSome (S.holds store.old) (λ files. FILE_LIMIT < length (bytes_of files dir.now name.now)) }
+    ensures small { OnOk result (length bytes.new.items ≤ limit) }
+    ensures large { result ≡ Err TooLarge → IfSome (S.holds store.old) (λ files. limit < length (bytes_of files dir.now name.now)) }
     ensures fault { result ≡ Err Fault → HasRisen (S.faults store.old) (S.faults store.new) }
     ensures grows { S.faults store.old ≤ S.faults store.new }
     ensures keeps { S.holds store.new ≡ S.holds store.old }
 {
-    while bytes.len() <= FILE_LIMIT {
-        let size = buffer.len().min(FILE_LIMIT + 1 - bytes.len());
+    while bytes.len() <= limit {
+        let size = buffer.len().min(limit + 1 - bytes.len());
         if read_part(store, dir, name, &mut buffer[..size], bytes)? == 0 {
             return Ok(());
         }

@@ -2,6 +2,9 @@
 ghost use Rattle.std.specs.Prelude.{◌≡◌};
 ghost use Rattle.hosttrace.specs.Statuses.{code_of};
 
+use std::alloc::AllocFailed;
+use trace_metadata::MetaCause;
+
 /// A list that was read.
 #[derive(Clone, Copy, Debug, PartialEq, Eq)]
 pub enum ListFile {
@@ -12,15 +15,25 @@ pub enum ListFile {
 /// What has a limit.
 #[derive(Clone, Copy, Debug, PartialEq, Eq)]
 pub enum Limit {
-    /// The bytes of a file.
+    /// The folders that the words name.
+    Hosts,
+    /// The names in a folder that don't begin with a dot.
+    Names,
+    /// The bytes of a file of metadata.
+    Metadata,
+    /// The bytes of any other file.
     File,
+    /// The bytes of all files of all folders together.
+    Files,
     /// The line feeds of a question file.
     Questions,
 }
 
-/// Why the input was refused. Lines count from 1.
+/// Why the input was refused. Hosts count from 0 and lines from 1.
 #[derive(Clone, Copy, Debug, PartialEq, Eq)]
 pub enum Refusal {
+    NoMetadata { host: u32 },
+    BadMetadata { host: u32, cause: MetaCause },
     BadList { file: ListFile, line: u64 },
     TooLarge { what: Limit },
 }
@@ -38,6 +51,17 @@ pub enum Status {
     /// A sink failed.
     WriteFault,
     NoMemory,
+}
+
+impl<T: Drop> From<AllocFailed<T>> for Status {
+    ghost use Rattle.std.specs.Prelude.{◌≡◌};
+    ghost use Rattle.hosttrace.specs.declared.status.Status.TheVariants as variant;
+
+    ghost from_gives = { λ _ status. status ≡ variant.NoMemory };
+
+    fn from(_error: AllocFailed<T>) -> Status {
+        Status::NoMemory
+    }
 }
 
 impl Status {

@@ -13,6 +13,24 @@ use std::fmt;
 use std::io::Write;
 use trace_types::OutOfMemory;
 
+impl fmt::Display for Limit {
+    ghost use Rattle.std.specs.Prelude.{Some};
+    ghost use Rattle.hosttrace.specs.Statuses.{limit_text};
+
+    ghost output = { λ what. Some (limit_text what) };
+
+    fn fmt<W: fmt::Write>(&self, f: &mut fmt::Formatter<W>) -> fmt::Result {
+        f.write_str(match self {
+            Limit::Hosts => "hosts",
+            Limit::Names => "names",
+            Limit::Metadata => "metadata",
+            Limit::File => "file",
+            Limit::Files => "files",
+            Limit::Questions => "questions",
+        })
+    }
+}
+
 impl fmt::Display for Refusal {
     ghost use Rattle.std.specs.Prelude.{Some};
     ghost use Rattle.hosttrace.specs.Statuses.{refusal_text};
@@ -21,6 +39,8 @@ impl fmt::Display for Refusal {
 
     fn fmt<W: fmt::Write>(&self, f: &mut fmt::Formatter<W>) -> fmt::Result {
         match *self {
+            Refusal::NoMetadata { host } => write!(f, "host {host}: no metadata"),
+            Refusal::BadMetadata { host, cause } => write!(f, "host {host}: metadata {cause}"),
             Refusal::BadList {
                 file: ListFile::Events,
                 line,
@@ -29,10 +49,7 @@ impl fmt::Display for Refusal {
                 file: ListFile::Questions,
                 line,
             } => write!(f, "questions line {line}"),
-            Refusal::TooLarge { what: Limit::File } => write!(f, "too large: file"),
-            Refusal::TooLarge {
-                what: Limit::Questions,
-            } => write!(f, "too large: questions"),
+            Refusal::TooLarge { what } => write!(f, "too large: {what}"),
         }
     }
 }

@@ -1,12 +1,13 @@
 //! Reading the words of a command line.
-ghost use Rattle.std.specs.Prelude.{◌≡◌, ◌≢◌, ◌↔◌, ◌<◌, ◌^◌, ◌∷◌, [], ℕ, IsTrue, IfOk, Err, codes, map, string_bytes};
+ghost use Rattle.std.specs.Prelude.{◌≡◌, ◌≢◌, ◌↔◌, ◌<◌, ◌^◌, ◌∷◌, [], ℕ, length, IsTrue, IfOk, IfSome, IfNone, Err, codes, get_or, map, string_bytes};
 ghost use Rattle.std.specs.Fmt.{decimal};
-ghost use Rattle.hosttrace.specs.Words.{IsCommand, IsFileWord};
+ghost use Rattle.hosttrace.specs.Words.{IsCommand, IsListCommand, IsFileWord, are_file_words};
 ghost use Rattle.hosttrace.specs.declared.words.WordsError.TheVariants.{Usage};
 ghost use Rattle.hosttrace.specs.declared.command.Command.{Command};
 
 use crate::command::{Command, Input, PlainCommand};
-use std::alloc::Global;
+use sqlite_items::Items;
+use std::alloc::{AllocError, Global};
 use trace_types::{OutOfMemory, TIME_END, Text, read_number_below};
 
 /// Why words are no command.
@@ -27,10 +28,73 @@ impl From<OutOfMemory> for WordsError {
     }
 }
 
+impl From<AllocError> for WordsError {
+    ghost use Rattle.std.specs.Prelude.{◌≡◌};
+    ghost use Rattle.hosttrace.specs.declared.words.WordsError.TheVariants as variant;
+
+    ghost from_gives = { λ _ e. e ≡ variant.OutOfMemory };
+
+    fn from(_error: AllocError) -> WordsError {
+        WordsError::OutOfMemory
+    }
+}
+
 /// Reads the words after the program's name. `Usage` comes exactly where they are no command.
 pub fn parse_words(alloc: Global, words: &[String]) -> Result<Command, WordsError>
     ensures found { IfOk result (λ c. IsCommand (map string_bytes words.now) c) }
     ensures usage { result ≡ Err Usage → (c : Command) → ¬ (IsCommand (map string_bytes words.now) c) }
+{
+    match words_of_check(words) {
+        Some(folders) => parse_check(alloc, folders),
+        None => parse_listed(alloc, words),
+    }
+}
+
+// The words behind the name of the command over folders, where that is the first.
+fn words_of_check(words: &[String]) -> Option<&[String]>
+    ensures found { IfSome result (λ folders. map string_bytes words.now ≡ codes "check" ∷ map string_bytes folders.now) }
+    ensures none { IfNone result (get_or (map string_bytes words.now) 0 [] ≢ codes "check") }
+{
+    let Some((command, folders)) = words.split_first() else {
+        return None;
+    };
+    if command.as_str() != "check" {
+        return None;
+    }
+    Some(folders)
+}
+
+// A command over folders.
+fn parse_check(alloc: Global, words: &[String]) -> Result<Command, WordsError>
+    ensures found { IfOk result (λ c. IsCommand (codes "check" ∷ map string_bytes words.now) c) }
+    ensures usage { result ≡ Err Usage → ¬ ((0 < length words.now) × IsTrue (are_file_words (map string_bytes words.now))) }
+{
+    if words.is_empty() {
+        return Err(WordsError::Usage);
+    }
+    let folders = folders_named(alloc, words)?;
+    Ok(Command::Plain(PlainCommand::Check { folders }))
+}
+
+// The folders that words name.
+fn folders_named(alloc: Global, words: &[String]) -> Result<Items<Text>, WordsError>
+    ensures found { IfOk result (λ folders. (folders ≡ map string_bytes words.now) × IsTrue (are_file_words folders)) }
+    ensures usage { result ≡ Err Usage → ¬ (IsTrue (are_file_words (map string_bytes words.now))) }
+{
+    let mut folders = Items::new(alloc);
+    for word in words {
+        if !is_file_word(word.as_bytes()) {
+            return Err(WordsError::Usage);
+        }
+        folders.push(Text::from_bytes(alloc, word.as_bytes())?)?;
+    }
+    Ok(folders)
+}
+
+// A command over an event list.
+fn parse_listed(alloc: Global, words: &[String]) -> Result<Command, WordsError>
+    ensures found { IfOk result (λ c. IsCommand (map string_bytes words.now) c) }
+    ensures usage { result ≡ Err Usage → (c : Command) → ¬ (IsListCommand (map string_bytes words.now) c) }
 {
     let [command, first_word, first, list_word, file] = words else {
         return Err(WordsError::Usage);
@@ -70,7 +134,7 @@ fn parse_ask(alloc: Global, questions: &[u8], file: &[u8]) -> Result<Command, Wo
     Ok(Command::Plain(PlainCommand::Ask { input, questions }))
 }
 
-// Whether a word can name a file.
+// Whether a word can name a file or a folder.
 fn is_file_word(word: &[u8]) -> bool
     ensures { IsTrue result ↔ IsFileWord word.now }
 {

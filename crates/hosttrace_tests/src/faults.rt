@@ -24,6 +24,12 @@ impl Store for ScriptedStore {
     ghost faults = { λ s. s.faults };
 
     fn names(&mut self, dir: &[u8]) -> Result<Vec<Text>, StoreError> {
+        let broken = self.calls == self.fails_at;
+        self.calls = self.calls.saturating_add(1);
+        if broken {
+            self.faults = self.faults.saturating_add(1);
+            return Err(StoreError::Failed);
+        }
         self.files.names(dir)
     }
 
@@ -75,25 +81,38 @@ impl Sink for NarrowSink {
     }
 }
 
+const METADATA: &[u8] = b"trace { byte_order = le; };";
+
 const QUESTIONS: &[u8] = b"249 h0/Cpu/0/Thread\n99 h0/Cpu/0/Thread\n";
 
 const ANSWERS: &str = "249 h0/Cpu/0/Thread int 7\n99 h0/Cpu/0/Thread null\n";
 
-// Asks two questions, where the store's call of this number fails and the sink for the text takes so
-// many bytes: the status, what was written, and the line on the sink for errors.
+// Asks two questions, as `ran`.
 fn asked<R: AllocGlobal>(
     rt: &R,
     fails_at: u64,
     room: usize,
 ) -> Result<(Status, Vec<u8>, Vec<u8>), Fail> {
+    ran(rt, "ask --questions q --list a.list", fails_at, room)
+}
+
+// Runs words where the store's call of this number fails and the sink for the text takes so many
+// bytes: the status, what was written, and the line on the sink for errors.
+fn ran<R: AllocGlobal>(
+    rt: &R,
+    line: &str,
+    fails_at: u64,
+    room: usize,
+) -> Result<(Status, Vec<u8>, Vec<u8>), Fail> {
     let alloc = rt.alloc();
     let mut words = Vec::new(alloc);
-    for word in "ask --questions q --list a.list".split_whitespace() {
+    for word in line.split_whitespace() {
         words.push(String::from_str(alloc, word)?)?;
     }
     let mut files = MemoryStore::new(alloc);
     files.put(b"", b"a.list", ONE_SWITCH)?;
     files.put(b"", b"q", QUESTIONS)?;
+    files.put(b"d", b"metadata", METADATA)?;
     let mut store = ScriptedStore {
         files,
         calls: 0,
@@ -125,6 +144,25 @@ fn a_store_that_fails_at_each_call(rt: HostRuntime) -> Result<(), Fail> {
     let (status, out, err) = asked(&rt, 4, 1000)?;
     assert_eq!(rt; status, Status::Done);
     assert_eq!(rt; str::from_utf8(&out)?, ANSWERS);
+    assert!(rt; err.is_empty());
+    Ok(())
+}
+
+// A folder is read by three calls: its names, the bytes of its metadata, and then none.
+#[test]
+fn a_folder_that_fails_at_each_call(rt: HostRuntime) -> Result<(), Fail> {
+    for call in 0..3 {
+        let (status, out, err) = ran(&rt, "check d", call, 1000)?;
+        assert_eq!(rt; status, Status::ReadFault);
+        assert_eq!(rt; str::from_utf8(&err)?, "read fault\n");
+        assert!(rt; out.is_empty());
+    }
+    let (status, out, err) = ran(&rt, "check d", 3, 1000)?;
+    assert_eq!(rt; status, Status::Done);
+    assert_eq!(rt;
+        str::from_utf8(&out)?,
+        "host 0 streams 0 events 0 clocks 0\n"
+    );
     assert!(rt; err.is_empty());
     Ok(())
 }

@@ -20,14 +20,19 @@ pub fn run_on<R: AllocGlobal>(rt: &R, line: &str, name: &str, bytes: &[u8]) -> R
 
 /// The same, where several files lie there.
 pub fn run_over<R: AllocGlobal>(rt: &R, line: &str, files: &[(&str, &[u8])]) -> Result<Ran, Fail> {
+    let mut store = MemoryStore::new(rt.alloc());
+    for (name, bytes) in files {
+        store.put(b"", name.as_bytes(), bytes)?;
+    }
+    run_in(rt, line, store)
+}
+
+/// The same over the files of a store.
+pub fn run_in<R: AllocGlobal>(rt: &R, line: &str, mut store: MemoryStore) -> Result<Ran, Fail> {
     let alloc = rt.alloc();
     let mut words = Vec::new(alloc);
     for word in line.split_whitespace() {
         words.push(String::from_str(alloc, word)?)?;
-    }
-    let mut store = MemoryStore::new(alloc);
-    for (name, bytes) in files {
-        store.put(b"", name.as_bytes(), bytes)?;
     }
     let mut out = MemorySink {
         bytes: Vec::new(alloc),

@@ -8,6 +8,8 @@ mod bad_lists;
 #[cfg(test)]
 mod bad_questions;
 #[cfg(test)]
+mod check_runs;
+#[cfg(test)]
 mod faults;
 #[cfg(test)]
 mod folders;

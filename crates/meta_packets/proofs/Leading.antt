@@ -21,6 +21,6 @@ module _ (order : ByteOrderKind) (uuid : List ℕ) where
 pub joined_more : (contents : List (List ℕ)) (content : List ℕ) → joined (contents ++ content ∷ []) ≡ joined contents ++ content
 joined_more contents content = flat_map-append (λ c. c) contents (content ∷ []) ∙ ap (λ l. joined contents ++ l) (append-nil content)
 
--- a file of packets that has a text isn't refused, so the two answers leave no choice
+-- a file of packets that has a text isn't refused
 pub text_or_refused : (order : ByteOrderKind) (bytes text : List ℕ) (offset : ℕ) (cause : MetaPacketCause) → IsJoin order bytes text → IsRefused order bytes offset cause → ⊥
 text_or_refused order bytes text offset cause h g = one_end order (uuid_of bytes) bytes h.contents g.contents g.rest cause h.packets g.packets g.some g.fails

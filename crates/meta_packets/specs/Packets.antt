@@ -1,5 +1,5 @@
 -- Metadata packets (CTF 1.8, section 7.1): a header of 37 bytes, the text, and padding.
-use Rattle.std.specs.Prelude.{◌≡◌, ◌⊎◌, ℕ, ◌+◌, ◌-◌, ◌*◌, ◌/◌, ◌%◌, ◌<◌, ◌≤◌, ◌==◌, ◌||◌, not, nat_lt, Bool, if◌then◌else◌, List, [], ◌∷◌, length, take, drop, slice_index, flat_map, Option, None, Some}
+use Rattle.std.specs.Prelude.{◌≡◌, ◌≢◌, ◌⊎◌, ℕ, ◌+◌, ◌-◌, ◌*◌, ◌/◌, ◌%◌, ◌<◌, ◌≤◌, ◌==◌, ◌||◌, not, nat_lt, Bool, if◌then◌else◌, List, [], ◌∷◌, length, take, drop, slice_index, flat_map, Option, None, Some, codes}
 use Rattle.std.specs.Cmp.Lexicographic.{pointwise}
 use Rattle.byteorder.specs.Endian.{big_number, little_number}
 use Rattle.trace_types.specs.declared.byte_order.ByteOrderKind.{ByteOrderKind}
@@ -73,7 +73,8 @@ joined contents = flat_map (λ c. c) contents
 
 -- a file is packets where it begins with the magic number in one of the byte orders
 abbrev pub IsPackets : ByteOrderKind → List ℕ → Type 0
-IsPackets order bytes = (4 ≤ length bytes) × (number order bytes ≡ MAGIC)
+IsPackets Big bytes = (4 ≤ length bytes) × (number Big bytes ≡ MAGIC)
+IsPackets Little bytes = (4 ≤ length bytes) × (number Big bytes ≢ MAGIC) × (number Little bytes ≡ MAGIC)
 
 abbrev pub IsPlain : List ℕ → Type 0
 IsPlain bytes = (order : ByteOrderKind) → ¬ (IsPackets order bytes)
@@ -97,3 +98,11 @@ pub record IsRefused (order : ByteOrderKind) (bytes : List ℕ) (offset : ℕ) (
   pub some : 0 < length rest
   pub fails : cause_of order (uuid_of bytes) rest ≡ Some cause
   pub place : offset + length rest ≡ length bytes
+
+-- the words of the causes (this project's own)
+abbrev pub cause_text : MetaPacketCause → List ℕ
+cause_text ShortHeader = codes "ShortHeader"
+cause_text BadMagic = codes "BadMagic"
+cause_text Scheme = codes "Scheme"
+cause_text BadSize = codes "BadSize"
+cause_text MixedUuid = codes "MixedUuid"

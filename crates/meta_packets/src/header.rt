@@ -3,6 +3,7 @@ ghost use Rattle.std.specs.Prelude.{◌≡◌, ◌<◌, ◌≤◌, ◌%◌, leng
 ghost use Rattle.meta_packets.specs.Packets.{MAGIC, HEADER, number, uuid_of, content_bits, packet_bits, is_coded, is_missized, same_bytes, cause_of, IsPackets, IsPlain};
 
 use byteorder::{BigEndian, ByteOrder, LittleEndian};
+use std::fmt;
 use trace_types::ByteOrderKind;
 
 /// The bytes of a header.
@@ -23,6 +24,23 @@ pub enum MetaPacketCause {
     BadSize,
     /// Its uuid isn't that of the first packet.
     MixedUuid,
+}
+
+impl fmt::Display for MetaPacketCause {
+    ghost use Rattle.std.specs.Prelude.{Some};
+    ghost use Rattle.meta_packets.specs.Packets.{cause_text};
+
+    ghost output = { λ cause. Some (cause_text cause) };
+
+    fn fmt<W: fmt::Write>(&self, f: &mut fmt::Formatter<W>) -> fmt::Result {
+        f.write_str(match self {
+            MetaPacketCause::ShortHeader => "ShortHeader",
+            MetaPacketCause::BadMagic => "BadMagic",
+            MetaPacketCause::Scheme => "Scheme",
+            MetaPacketCause::BadSize => "BadSize",
+            MetaPacketCause::MixedUuid => "MixedUuid",
+        })
+    }
 }
 
 /// The byte order in which a file begins with the magic number.

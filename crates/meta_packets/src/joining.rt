@@ -22,7 +22,7 @@ impl fmt::Display for MetaPacketError {
     fn fmt<W: fmt::Write>(&self, f: &mut fmt::Formatter<W>) -> fmt::Result {
         match self {
             MetaPacketError::At { offset, cause } => {
-                write!(f, "the packet at byte {offset}: {cause:?}")
+                write!(f, "the packet at byte {offset}: {cause}")
             }
             MetaPacketError::OutOfMemory => write!(f, "out of memory"),
         }

@@ -3,6 +3,8 @@
 
 mod header;
 mod joining;
+mod laws;
 
 pub use header::MetaPacketCause;
 pub use joining::{MetaPacketError, join};
+pub use laws::one_text;

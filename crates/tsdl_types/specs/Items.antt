@@ -1,25 +1,30 @@
--- The items of a text, and the first that breaks a rule. Its blocks are passed over here.
-use Rattle.std.specs.Prelude.{◌≡◌, ℕ, ◌+◌, List, [], ◌∷◌, Some, None, Result, Ok, Err, false}
+-- The items of a text, and the first that breaks a rule (CTF 1.8, sections 4 to 7).
+use Rattle.std.specs.Prelude.{◌≡◌, ℕ, ◌+◌, List, [], ◌∷◌, Option, Some, None, unwrap_or, codes, Result, Ok, Err, false}
 use Rattle.trace_types.specs.declared.byte_order.ByteOrderKind.{ByteOrderKind}
+use Rattle.trace_types.specs.declared.byte_order.ByteOrderKind.TheVariants.{Little}
+use Rattle.tsdl_parser.specs.declared.tree.BlockKind.TheVariants.{Trace}
 use Rattle.tsdl_parser.specs.declared.tree.Decl.{Decl}
+use Rattle.tsdl_parser.specs.declared.tree.Entry.{Entry}
 use Rattle.tsdl_parser.specs.declared.tree.Item.{Item}
 use Rattle.tsdl_parser.specs.declared.tree.Item.TheVariants as item
 use Rattle.tsdl_parser.specs.declared.tree.TypeTree.TheVariants as tree
-use Rattle.type_table.specs.declared.around.Around.{Around}
+use Rattle.known_types.specs.declared.around.Around.{Around}
 use Rattle.type_table.specs.declared.cause.MetaItemCause.{MetaItemCause}
+use Rattle.type_table.specs.declared.cause.MetaItemCause.TheVariants.{NoTrace}
 use Rattle.tsdl_types.specs.declared.error.MetaError.{MetaError}
 use Rattle.tsdl_types.specs.declared.error.MetaError.TheVariants as error
 use Rattle.type_table.specs.declared.fault.Fault.{Fault}
 use Rattle.type_table.specs.declared.fault.Fault.TheVariants as fault
 use Rattle.type_table.specs.declared.names.NameKind.TheVariants as kind
-use Rattle.type_table.specs.declared.way.Use.TheVariants as used
-use Rattle.type_table.specs.Known.{Known, Step, Typed, Good, Bad, ◌>>=◌, ◌>>◌, pure, new_name, declared, empty_known}
+use Rattle.known_types.specs.declared.way.Use.TheVariants as used
+use Rattle.known_types.specs.Known.{Known, Step, Typed, Good, Bad, ◌>>=◌, ◌>>◌, pure, new_name, declared, empty_known}
+use Rattle.known_types.specs.References.{or_else}
+use Rattle.known_types.specs.Traces.{Trace as TraceDeclared, trace_of}
+use Rattle.type_rules.specs.Attributes.{said, trace_order_said}
+use Rattle.tsdl_types.specs.Blocks.{attrs_in, block_of}
 use Rattle.type_table.specs.Names.{spaced}
-use Rattle.tsdl_types.specs.Typing.{fields_within, used_as}
-
--- how many braces may be open
-abbrev pub MAX_BRACES : ℕ
-MAX_BRACES = 40
+use Rattle.type_rules.specs.Limits.{MAX_BRACES}
+use Rattle.type_rules.specs.Typing.{fields_within, used_as}
 
 -- nothing of a block stands around a type of an item
 abbrev pub outside : ByteOrderKind → Around
@@ -33,32 +38,59 @@ item_of order (item.Alias ty words) = do
 item_of order (item.Struct t) = used_as (fields_within MAX_BRACES (outside order)) (outside order) used.Name (tree.Struct t) >> pure tt
 item_of order (item.Variant t) = used_as (fields_within MAX_BRACES (outside order)) (outside order) used.Name (tree.Variant t) >> pure tt
 item_of order (item.Enum t) = used_as (fields_within MAX_BRACES (outside order)) (outside order) used.Name (tree.Enum t) >> pure tt
-item_of order (item.Block of entries) = pure tt
+item_of order (item.Block kind entries) = block_of order kind entries
 
--- what the items of a text declare, or the number of the first that breaks a rule, from 1, and the cause
-pub data Declared : Type 0 where
-  Whole : Known → Declared
-  Breaks : ℕ → MetaItemCause → Declared
+-- what a text declares, or the number of the first item that breaks a rule, from 1, and the cause
+pub data Declared (A : Type 0) : Type 0 where
+  Whole : A → Declared A
+  Breaks : ℕ → MetaItemCause → Declared A
 
-abbrev pub declared_on : ℕ → (Known → Declared) → Typed (Unit {0} × Known) → Declared
+abbrev pub declared_on : ℕ → (Known → Declared Known) → Typed (Unit {0} × Known) → Declared Known
 declared_on n rest (Good r) = rest r.1
 declared_on n rest (Bad cause) = Breaks n cause
 
 -- from this item on
-abbrev pub declared_from : ByteOrderKind → ℕ → List Decl → Known → Declared
+abbrev pub declared_from : ByteOrderKind → ℕ → List Decl → Known → Declared Known
 declared_from order n [] k = Whole k
 declared_from order n (d ∷ decls) k = declared_on n (declared_from order (n + 1) decls) (item_of order d.item k)
 
-abbrev pub declared_by : ByteOrderKind → List Decl → Declared
-declared_by order decls = declared_from order 1 decls empty_known
+abbrev pub declared_in : ByteOrderKind → List Decl → Declared Known
+declared_in order decls = declared_from order 1 decls empty_known
 
--- what is known in the end, or the item that is refused
-abbrev pub Declares : {A : Type 0} → (A → Known) → Declared → Result A MetaError → Type 0
-Declares known_of declared (Ok a) = declared ≡ Whole (known_of a)
-Declares known_of declared (Err (error.Item n cause)) = declared ≡ Breaks n cause
-Declares known_of declared (Err error.OutOfMemory) = Unit {0}
+-- what is declared, or the item that is refused
+abbrev pub Declares : {A V : Type 0} → (V → A) → Declared A → Result V MetaError → Type 0
+Declares value declared (Ok v) = declared ≡ Whole (value v)
+Declares value declared (Err (error.Item n cause)) = declared ≡ Breaks n cause
+Declares value declared (Err error.OutOfMemory) = Unit {0}
 
 -- the item of this number, from 0
 abbrev pub IsRefused : ℕ → Fault → MetaError → Type 0
 IsRefused at (fault.Breaks cause) e = e ≡ error.Item (at + 1) cause
 IsRefused at fault.OutOfMemory e = e ≡ error.OutOfMemory
+
+-- ---- the whole text
+
+-- the entries of a block of the trace
+abbrev pub trace_entries : Item → Option (List Entry)
+trace_entries (item.Block Trace entries) = Some entries
+trace_entries _ = None
+
+abbrev pub first_trace : List Decl → Option (List Entry)
+first_trace [] = None
+first_trace (d ∷ decls) = or_else (trace_entries d.item) (first_trace decls)
+
+-- the byte order that a block of the trace says; where it says none, the block is refused
+abbrev pub order_in : List Entry → ByteOrderKind
+order_in entries = unwrap_or (said trace_order_said (codes "byte_order") (attrs_in entries)) Little
+
+abbrev pub ended : ByteOrderKind → Declared Known → Declared TraceDeclared
+ended order (Whole k) = Whole (trace_of order k)
+ended order (Breaks n cause) = Breaks n cause
+
+-- a text without a block of the trace is refused before its items
+abbrev pub resolved_by : List Decl → Option (List Entry) → Declared TraceDeclared
+resolved_by decls None = Breaks 0 NoTrace
+resolved_by decls (Some entries) = ended (order_in entries) (declared_in (order_in entries) decls)
+
+abbrev pub resolved : List Decl → Declared TraceDeclared
+resolved decls = resolved_by decls (first_trace decls)

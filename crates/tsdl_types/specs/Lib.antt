@@ -1,3 +1,3 @@
-pub mod Attributes
+pub mod Blocks
 pub mod Items
-pub mod Typing
+pub mod Uuids

@@ -1,4 +1,6 @@
 //! Why a metadata text is refused.
+use std::error::Error;
+use std::fmt;
 use trace_types::OutOfMemory;
 use type_table::MetaItemCause;
 
@@ -8,6 +10,17 @@ pub enum MetaError {
     Item { item: u64, cause: MetaItemCause },
     OutOfMemory,
 }
+
+impl fmt::Display for MetaError {
+    fn fmt<W: fmt::Write>(&self, f: &mut fmt::Formatter<W>) -> fmt::Result {
+        match self {
+            MetaError::Item { item, cause } => write!(f, "item {item}: {cause}"),
+            MetaError::OutOfMemory => write!(f, "out of memory"),
+        }
+    }
+}
+
+impl Error for MetaError {}
 
 impl From<OutOfMemory> for MetaError {
     ghost use Rattle.std.specs.Prelude.{◌≡◌};

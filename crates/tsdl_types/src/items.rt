@@ -1,32 +1,31 @@
 //! The items of a text.
 ghost use Rattle.std.specs.Prelude.{◌≡◌, ◌<◌, ◌+◌, ◌^◌, length};
 ghost use Rattle.tsdl_types.specs.Items as items;
-ghost use Rattle.tsdl_types.specs.Items.{Declares, IsRefused, declared_by};
-ghost use Rattle.type_table.specs.Known.{Does};
+ghost use Rattle.tsdl_types.specs.Items.{Declares, IsRefused, declared_in};
+ghost use Rattle.known_types.specs.Known.{Does};
 ghost use Rattle.type_table.specs.Table.{tree_at};
-ghost use Rattle.tsdl_types.specs.Typing.{looked_at};
-ghost use Rattle.type_table.specs.View.{state};
+ghost use Rattle.type_rules.specs.Typing.{looked_at};
+ghost use Rattle.known_types.specs.View.{state};
 
-use crate::enums::enum_type;
 use crate::error::MetaError;
-use crate::types::{struct_type, used_as, variant_type};
-use crate::typing::{declare, new_name};
+use crate::whole_blocks::block_of;
+use known_types::{Around, Known, Use, Written};
 use std::alloc::Global;
 use trace_types::ByteOrderKind;
 use tsdl_parser::{Decl, Item};
-use type_table::{Around, Fault, Known, NameKind, Use, Written, spaced};
+use type_rules::{declare, enum_type, new_name, struct_type, used_as, variant_type};
+use type_table::{Fault, NameKind, spaced};
 
 /// How many braces may be open in a text.
-const MAX_BRACES: u32 = 40;
+pub const MAX_BRACES: u32 = 40;
 
-/// The types that the items of a text declare. Integers that don't tell their byte order have this one. Blocks are
-/// passed over.
+/// What the items of a text declare. Integers that don't tell their byte order have this one.
 pub fn declare_types(
     alloc: Global,
     order: ByteOrderKind,
     decls: &[Decl],
 ) -> Result<Known, MetaError>
-    ensures { Declares (λ k. (state k).known) (declared_by order decls.now) result }
+    ensures { Declares (λ k. (state k).known) (declared_in order decls.now) result }
 {
     let mut types = Known::new(alloc);
     for at in 0..decls.len() {
@@ -51,7 +50,7 @@ fn refused(at: usize, fault: Fault) -> MetaError
     }
 }
 
-#[tactic(auto, unfolding(crate::specs::Items::item_of, crate::specs::Typing::used_as, crate::specs::Typing::type_of))]
+#[tactic(auto, unfolding(crate::specs::Items::item_of, type_rules::specs::Typing::used_as, type_rules::specs::Typing::type_of))]
 fn item_of(types: &mut Known, alloc: Global, order: ByteOrderKind, item: &Item) -> Result<(), Fault>
     ensures { Does (items.item_of order item.now (state types.old).known) result (state types.new) }
 {
@@ -75,7 +74,9 @@ fn item_of(types: &mut Known, alloc: Global, order: ByteOrderKind, item: &Item) 
             let (place, is_known) = enum_type(types, alloc, around, tree)?;
             look(types, alloc, around, place, is_known)
         }
-        Item::Block { .. } => Ok(()),
+        Item::Block { kind, entries } => {
+            block_of(types, alloc, order, *kind, entries.as_slice())
+        }
     }
 }
 

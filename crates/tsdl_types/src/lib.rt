@@ -1,14 +1,16 @@
-//! The types that the items of a text of metadata declare (CTF 1.8, sections 4 and 7.3.2).
+//! What the items of a text of metadata declare (CTF 1.8, sections 4 to 7).
 #![tactic(auto)]
 
-mod enums;
+mod blocks;
+mod entries;
 mod error;
-mod integer;
 mod items;
-mod lists;
-mod types;
-mod typing;
-mod values;
+mod laws;
+mod resolving;
+mod scopes;
+mod uuids;
+mod whole_blocks;
 
 pub use error::MetaError;
-pub use items::declare_types;
+pub use laws::small_types_of_traces;
+pub use resolving::resolve;

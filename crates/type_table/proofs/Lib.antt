@@ -1,13 +1,6 @@
 pub mod Factual
-pub mod Frames
-pub mod Inside
 pub mod Keeping
-pub mod Laters
-pub mod Named
-pub mod Nearest
-pub mod Pushes
 pub mod Sums
 pub mod Tables
 pub mod Texts
 pub mod Trees
-pub mod Views

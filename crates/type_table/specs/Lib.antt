@@ -1,11 +1,7 @@
+pub mod Causes
 pub mod Facts
 pub mod Faults
-pub mod Known
-pub mod Labels
 pub mod Names
-pub mod Rechecked
-pub mod References
 pub mod Table
+pub mod ToldKept
 pub mod Types
-pub mod Uses
-pub mod View

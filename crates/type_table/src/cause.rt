@@ -1,4 +1,5 @@
 //! Why a metadata text declares no trace.
+use std::fmt;
 
 /// What is wrong with an item. Where two causes stand at one place, the first of this order counts.
 #[derive(Clone, Copy, Debug, PartialEq, Eq)]
@@ -15,4 +16,22 @@ pub enum MetaItemCause {
     BadReference,
     /// No block tells of the trace.
     NoTrace,
+}
+
+impl fmt::Display for MetaItemCause {
+    ghost use Rattle.std.specs.Prelude.{Some};
+    ghost use Rattle.type_table.specs.Causes.{cause_text};
+
+    ghost output = { λ cause. Some (cause_text cause) };
+
+    fn fmt<W: fmt::Write>(&self, f: &mut fmt::Formatter<W>) -> fmt::Result {
+        f.write_str(match self {
+            MetaItemCause::FloatType => "FloatType",
+            MetaItemCause::UnknownType => "UnknownType",
+            MetaItemCause::DuplicateId => "DuplicateId",
+            MetaItemCause::BadAttribute => "BadAttribute",
+            MetaItemCause::BadReference => "BadReference",
+            MetaItemCause::NoTrace => "NoTrace",
+        })
+    }
 }

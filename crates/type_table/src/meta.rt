@@ -1,6 +1,6 @@
-//! Types as they are kept: each names others by their places.
+//! The types of a trace's metadata, by their places.
 use sqlite_items::Items;
-use trace_types::{ByteOrderKind, Text};
+use trace_types::ByteOrderKind;
 
 /// A place in `types`, below that of the type that names it.
 type TypePlace = u32;

@@ -1,4 +1,4 @@
-use Rattle.std.proofs.Common.{◌≡◌, ◌-◌, ◌≤◌, IfSome, length}
+use Rattle.std.proofs.Common.{◌≡◌, ◌+◌, ◌-◌, ◌≤◌, IfSome, length}
 use Rattle.ht_outside.specs.Files.{bytes_of}
 use Rattle.hosttrace.proofs.Parts.{IsFront}
 use Rattle.hosttrace.proofs.reading.read_all.Given as goal
@@ -8,7 +8,7 @@ invariant-loop-bytes g l =
     IfSome (g.S.Store.holds l.fn.store) (λ files. IsFront (bytes_of files l.dir l.name) l.bytes.items)
     × (g.S.Store.holds l.store ≡ g.S.Store.holds l.fn.store)
     × (g.S.Store.faults l.fn.store ≤ g.S.Store.faults l.store)
-    × (length l.bytes.items ≤ 268435457)
+    × (length l.bytes.items ≤ l.limit + 1)
 
 abbrev pub decreases-loop-bytes : goal.decreases-loop-bytes
-decreases-loop-bytes g l = 268435457 - length l.bytes.items
+decreases-loop-bytes g l = l.limit + 1 - length l.bytes.items

@@ -1,0 +1,63 @@
+//! Texts of metadata, each accepted or refused at an item for a cause.
+use std::alloc::AllocGlobal;
+use std::process::Abort;
+use std::test::Fail;
+use tsdl_lex::tokens;
+use tsdl_parser::parse;
+use tsdl_types::{MetaError, resolve};
+use type_table::{MetaItemCause, TraceMeta};
+
+// Two items stand before each text: a block, and an alias of a byte.
+const BEFORE: &[u8] = b"trace { byte_order = le; }; typealias integer { size = 8; } := b; ";
+
+/// What a text declares.
+pub fn declared<R: AllocGlobal + Abort>(
+    rt: &R,
+    text: &[u8],
+) -> Result<Result<TraceMeta, MetaError>, Fail> {
+    let found = tokens(rt.alloc(), text)?;
+    let decls = parse(rt.alloc(), &found)?;
+    Ok(resolve(rt.alloc(), &decls))
+}
+
+/// The number of the item of a text that is refused, and the cause.
+pub fn refused<R: AllocGlobal + Abort>(
+    rt: &R,
+    text: &[u8],
+) -> Result<Option<(u64, MetaItemCause)>, Fail> {
+    match declared(rt, text)? {
+        Ok(_) => Ok(None),
+        Err(MetaError::Item { item, cause }) => Ok(Some((item, cause))),
+        Err(MetaError::OutOfMemory) => panic!(rt; "memory"),
+    }
+}
+
+/// The same, behind the two items.
+pub fn refused_behind<R: AllocGlobal + Abort>(
+    rt: &R,
+    text: &[u8],
+) -> Result<Option<(u64, MetaItemCause)>, Fail> {
+    let mut whole = Vec::new(rt.alloc());
+    whole.extend_from_slice(BEFORE)?;
+    whole.extend_from_slice(text)?;
+    refused(rt, &whole)
+}
+
+/// Each text is accepted behind the two items.
+pub fn all_are_typed<R: AllocGlobal + Abort>(rt: &R, texts: &[&str]) -> Result<(), Fail> {
+    for text in texts {
+        assert!(rt; refused_behind(rt, text.as_bytes())?.is_none());
+    }
+    Ok(())
+}
+
+/// Each text, behind the two items, the number of the item that is refused, and the cause.
+pub fn all_are_refused<R: AllocGlobal + Abort>(
+    rt: &R,
+    table: &[(&str, u64, MetaItemCause)],
+) -> Result<(), Fail> {
+    for (text, item, cause) in table {
+        assert_eq!(rt; refused_behind(rt, text.as_bytes())?, Some((*item, *cause)));
+    }
+    Ok(())
+}

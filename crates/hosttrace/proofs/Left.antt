@@ -1,0 +1,87 @@
+-- What is left of folders and of hosts, behind those that were read.
+use Rattle.std.proofs.Common.{◌≡◌, inl, inr, ◌∙◌, ℕ, ◌+◌, ◌≤◌, List, [], ◌∷◌, ◌++◌, length, map, drop, Option, Some, None, refl, sym, ap, subst, append_assoc, append-nil}
+use Rattle.std.specs.Prelude.{IfSome}
+use Rattle.ht_outside.specs.Files.{Files}
+use Rattle.known_types.specs.Traces.{Trace}
+use Rattle.trace_metadata.specs.Files.{IsTrace}
+use Rattle.hosttrace.specs.Folders.{AreRead, FolderRefuses, FoldersRefuse, IsRead, metadata_of}
+use Rattle.hosttrace.specs.Hosts.{AreTraces, HostsRefuse, MetadataRefuses}
+use Rattle.hosttrace.specs.Inputs.{FailsBy}
+use Rattle.hosttrace.specs.declared.status.Refusal.{Refusal}
+use Rattle.hosttrace.specs.declared.status.Status.{Status}
+use Rattle.hosttrace.specs.declared.status.Status.TheVariants.{Done, Usage, Refused, ReadFault, WriteFault, NoMemory}
+use Rattle.hosttrace.proofs.Parts.{risen_later}
+
+-- ---- hosts
+
+pub record HostsLeft (files : List (List ℕ)) (at : ℕ) (ts : List Trace) : Type 0 where
+  pub goes_on : (more : List Trace) → AreTraces (drop at files) more → AreTraces files (ts ++ more)
+  pub only : (r : Refusal) → HostsRefuse at (drop at files) r → HostsRefuse 0 files r
+
+pub all_hosts : (files : List (List ℕ)) → HostsLeft files 0 []
+all_hosts files = record { goes_on = λ more h. h; only = λ r h. h }
+
+pub next_host : (files : List (List ℕ)) (at : ℕ) (ts : List Trace) (bytes : List ℕ) (t : Trace) → HostsLeft files at ts → drop at files ≡ bytes ∷ drop (at + 1) files → IsTrace bytes t → HostsLeft files (at + 1) (ts ++ t ∷ [])
+next_host files at ts bytes t left here is = record {
+  goes_on = λ more h. subst (AreTraces files) (sym (append_assoc ts (t ∷ []) more)) (left.goes_on (t ∷ more) (subst (λ l. AreTraces l (t ∷ more)) (sym here) (is, h)));
+  only = λ r h. left.only r (subst (λ l. HostsRefuse at l r) (sym here) (inr ((t, is), h)));
+}
+
+pub no_host : (files : List (List ℕ)) (at : ℕ) (ts : List Trace) → HostsLeft files at ts → drop at files ≡ [] → AreTraces files ts
+no_host files at ts left none = subst (AreTraces files) (append-nil ts) (left.goes_on [] (subst (λ l. AreTraces l []) (sym none) tt))
+
+pub bad_host : (files : List (List ℕ)) (at : ℕ) (ts : List Trace) (bytes : List ℕ) (r : Refusal) → HostsLeft files at ts → drop at files ≡ bytes ∷ drop (at + 1) files → MetadataRefuses at bytes r → HostsRefuse 0 files r
+bad_host files at ts bytes r left here bad = left.only r (subst (λ l. HostsRefuse at l r) (sym here) (inl bad))
+
+-- ---- folders
+
+pub record FoldersLeft (files : Files) (dirs : List (List ℕ)) (at total : ℕ) (texts : List (List ℕ)) : Type 0 where
+  pub reads : AreRead files total (drop at dirs) → AreRead files 0 dirs
+  pub only : (r : Refusal) → FoldersRefuse files at total (drop at dirs) r → FoldersRefuse files 0 0 dirs r
+  pub texts_are : map (metadata_of files) dirs ≡ texts ++ map (metadata_of files) (drop at dirs)
+
+pub all_folders : (o : Option Files) (dirs : List (List ℕ)) → IfSome o (λ files. FoldersLeft files dirs 0 0 [])
+all_folders None dirs = tt
+all_folders (Some files) dirs = record { reads = λ h. h; only = λ r h. h; texts_are = refl }
+
+next : (files : Files) (dirs : List (List ℕ)) (at total : ℕ) (texts : List (List ℕ)) (dir bytes : List ℕ) → FoldersLeft files dirs at total texts → drop at dirs ≡ dir ∷ drop (at + 1) dirs → IsRead files total dir → bytes ≡ metadata_of files dir
+    → FoldersLeft files dirs (at + 1) (total + length bytes) (texts ++ bytes ∷ [])
+next files dirs at total texts dir bytes left here is same =
+    let size : total + length (metadata_of files dir) ≡ total + length bytes = ap (λ b. total + length b) (sym same) in
+    record {
+      reads = λ h. left.reads (subst (AreRead files total) (sym here) (is, subst (λ n. AreRead files n (drop (at + 1) dirs)) (sym size) h));
+      only = λ r h. left.only r (subst (λ l. FoldersRefuse files at total l r) (sym here) (inr (is, subst (λ n. FoldersRefuse files (at + 1) n (drop (at + 1) dirs) r) (sym size) h)));
+      texts_are =
+          left.texts_are ∙ (ap (λ l. texts ++ map (metadata_of files) l) here ∙ (ap (λ b. texts ++ b ∷ map (metadata_of files) (drop (at + 1) dirs)) (sym same) ∙ sym (append_assoc texts (bytes ∷ []) (map (metadata_of files) (drop (at + 1) dirs)))));
+    }
+
+pub next_folder : (o q : Option Files) (dirs : List (List ℕ)) (at total : ℕ) (texts : List (List ℕ)) (dir bytes : List ℕ) → q ≡ o → IfSome o (λ files. FoldersLeft files dirs at total texts) → drop at dirs ≡ dir ∷ drop (at + 1) dirs
+    → IfSome q (λ files. IsRead files total dir) → IfSome q (λ files. bytes ≡ metadata_of files dir) → IfSome o (λ files. FoldersLeft files dirs (at + 1) (total + length bytes) (texts ++ bytes ∷ []))
+next_folder None q dirs at total texts dir bytes e left here is same = tt
+next_folder (Some files) q dirs at total texts dir bytes e left here is same =
+    next files dirs at total texts dir bytes left here (subst (λ o. IfSome o (λ files. IsRead files total dir)) e is) (subst (λ o. IfSome o (λ files. bytes ≡ metadata_of files dir)) e same)
+
+pub no_folder : (o : Option Files) (dirs : List (List ℕ)) (at total : ℕ) (texts : List (List ℕ)) → IfSome o (λ files. FoldersLeft files dirs at total texts) → drop at dirs ≡ [] → IfSome o (λ files. AreRead files 0 dirs)
+no_folder None dirs at total texts left none = tt
+no_folder (Some files) dirs at total texts left none = left.reads (subst (AreRead files total) (sym none) tt)
+
+pub all_texts : (o : Option Files) (dirs : List (List ℕ)) (at total : ℕ) (texts : List (List ℕ)) → IfSome o (λ files. FoldersLeft files dirs at total texts) → drop at dirs ≡ [] → IfSome o (λ files. texts ≡ map (metadata_of files) dirs)
+all_texts None dirs at total texts left none = tt
+all_texts (Some files) dirs at total texts left none = sym (left.texts_are ∙ (ap (λ l. texts ++ map (metadata_of files) l) none ∙ append-nil texts))
+
+-- ---- why a later step fails
+
+-- a refusal of what is left is one of the whole, and a fault that rose later rose
+pub fails_by : (P Q : Files → Refusal → Type 0) (o q : Option Files) (a b c : ℕ) (status : Status) → q ≡ o → a ≤ b → IfSome o (λ files. (r : Refusal) → Q files r → P files r) → FailsBy Q q b c status → FailsBy P o a c status
+fails_by P Q o q a b c Done e le f h = h
+fails_by P Q o q a b c Usage e le f h = h
+fails_by P Q None q a b c (Refused r) e le f h = tt
+fails_by P Q (Some files) q a b c (Refused r) e le f h = f r (subst (λ o. IfSome o (λ fs. Q fs r)) e h)
+fails_by P Q o q a b c ReadFault e le f h = risen_later a b c le h
+fails_by P Q o q a b c WriteFault e le f h = h
+fails_by P Q o q a b c NoMemory e le f h = h
+
+pub only_folder : (o : Option Files) (dirs : List (List ℕ)) (at total : ℕ) (texts : List (List ℕ)) (dir : List ℕ) → IfSome o (λ files. FoldersLeft files dirs at total texts) → drop at dirs ≡ dir ∷ drop (at + 1) dirs
+    → IfSome o (λ files. (r : Refusal) → FolderRefuses files at total dir r → FoldersRefuse files 0 0 dirs r)
+only_folder None dirs at total texts dir left here = tt
+only_folder (Some files) dirs at total texts dir left here = λ r h. left.only r (subst (λ l. FoldersRefuse files at total l r) (sym here) (inl h))

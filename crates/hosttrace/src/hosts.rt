@@ -1,0 +1,66 @@
+//! What the metadata of hosts declares.
+ghost use Rattle.std.specs.Prelude.{◌≡◌, ◌++◌, ◌≤◌, ◌^◌, ◌<◌, length, map, IfOk, IfErr, OnOk};
+ghost use Rattle.known_types.specs.Traces.{trace};
+ghost use Rattle.trace_metadata.specs.Files.{IsTrace};
+ghost use Rattle.hosttrace.specs.Folders.{HOST_LIMIT};
+ghost use Rattle.hosttrace.specs.Hosts.{AreTraces, HostsRefuse, MetadataRefuses, TextFails, host_line, host_lines};
+
+use crate::status::{Refusal, Status};
+use sqlite_items::Items;
+use std::alloc::Global;
+use std::io::Write;
+use trace_metadata::{MetadataError, read_metadata};
+use trace_types::OutOfMemory;
+use type_table::TraceMeta;
+
+/// What each host's metadata declares, or the status that tells of the first that is refused.
+pub fn read_hosts(alloc: Global, files: &[Items<u8>]) -> Result<Vec<TraceMeta>, Status>
+    requires { length files.now ≤ HOST_LIMIT }
+    ensures traces { IfOk result (λ metas. AreTraces files.now (map trace metas.items)) }
+    ensures fails { IfErr result (λ status. TextFails (HostsRefuse 0 files.now) status) }
+{
+    let mut metas = Vec::new(alloc);
+    for at in 0..files.len() {
+        metas.push(read_host(alloc, at as u32, files[at].as_slice())?)?;
+    }
+    Ok(metas)
+}
+
+// What the metadata of this host declares.
+fn read_host(alloc: Global, host: u32, bytes: &[u8]) -> Result<TraceMeta, Status>
+    ensures trace { IfOk result (λ meta. IsTrace bytes.now (trace meta)) }
+    ensures fails { IfErr result (λ status. TextFails (MetadataRefuses host bytes.now) status) }
+{
+    match read_metadata(alloc, bytes) {
+        Ok(meta) => Ok(meta),
+        Err(MetadataError::Refused(cause)) => {
+            Err(Status::Refused(Refusal::BadMetadata { host, cause }))
+        }
+        Err(MetadataError::OutOfMemory) => Err(Status::NoMemory),
+    }
+}
+
+/// A line for each host, with the numbers of its streams, events and clocks.
+pub fn check_text(alloc: Global, metas: &[TraceMeta]) -> Result<Vec<u8>, OutOfMemory>
+    ensures { IfOk result (λ text. text.items ≡ host_lines 0 (map trace metas.now)) }
+{
+    let mut text = Vec::new(alloc);
+    for at in 0..metas.len() {
+        write_host(at as u64, &metas[at], &mut text)?;
+    }
+    Ok(text)
+}
+
+#[tactic(auto, unfolding(known_types::specs::Traces::trace))]
+fn write_host(host: u64, meta: &TraceMeta, out: &mut Vec<u8>) -> Result<(), OutOfMemory>
+    ensures { OnOk result (out.new.items ≡ out.old.items ++ host_line host (trace meta.now)) }
+{
+    let streams = meta.stream_count();
+    let events = meta.event_count();
+    let clocks = meta.clock_count();
+    writeln!(
+        out,
+        "host {host} streams {streams} events {events} clocks {clocks}"
+    )
+    .map_err(|_| OutOfMemory)
+}

@@ -1,0 +1,257 @@
+//! Where the ways of tags and lengths lead.
+ghost use Rattle.std.specs.Prelude.{◌≡◌, ◌<◌, None, Some, length, map, option_map, reverse, IfNone, IfOk, IfSome};
+ghost use Rattle.known_types.specs.Known.{scope_type};
+ghost use Rattle.known_types.specs.References.{follow, from_inside, from_outside, in_frame, is_inner, is_written, judge, judge_earlier, judge_here, member, nearest, rank, suits, suits_if_any, verdict, all_lead, leads};
+ghost use Rattle.type_table.specs.Table.{AreBelow, FieldNamesIn, FieldsIn, name_at, tree, trees};
+ghost use Rattle.known_types.specs.View.{FrameIn, FramesIn, ScopesIn, frame_at, read_at, scopes_at, LaterIn, LatersIn, later_at};
+ghost use Rattle.type_table.specs.ToldKept.{IfHere};
+
+use crate::around::{Around, Written};
+use crate::known::{Frame, Later, ScopePlaces};
+use crate::way::{Judgement, Want};
+use type_table::{FieldMeta, Reference, ScopeName, Table, TypeMeta, is_same_name};
+
+// Whether a tag or a length may be of this type.
+fn suits(table: &Table, want: Want, place: u32) -> bool
+    requires { place < length table.now.types }
+    ensures { result ≡ suits want (tree table.now place) }
+{
+    match (want, table.get(place)) {
+        (Want::Tag, TypeMeta::Enum { .. }) => true,
+        (Want::Length, TypeMeta::Integer { signed, .. }) => !*signed,
+        _ => false,
+    }
+}
+
+// The type of the nearest field of a name.
+fn nearest(table: &Table, name: u32, fields: &[FieldMeta]) -> Option<u32>
+    requires name { name < length table.now.names }
+    requires types { FieldsIn (length table.now.types) fields.now }
+    requires names { FieldNamesIn (length table.now.names) fields.now }
+    ensures found { option_map (tree table.now) result ≡ nearest (name_at table.now.names name) (read_at table.now fields.now) }
+    ensures there { IfSome result (λ place. place < length table.now.types) }
+{
+    let wanted = table.name(name);
+    for behind in 0..fields.len() {
+        let field = fields[fields.len() - 1 - behind];
+        if is_same_name(wanted, table.name(field.name)) {
+            return Some(field.ty);
+        }
+    }
+    None
+}
+
+// The field of this name of a structure.
+#[tactic(auto, using(crate::proofs::Nearest::nearest_fields))]
+fn member(table: &Table, name: u32, place: Option<u32>) -> Option<u32>
+    requires name { name < length table.now.names }
+    requires place { IfSome place (λ p. p < length table.now.types) }
+    ensures found { option_map (tree table.now) result ≡ member (name_at table.now.names name) (option_map (tree table.now) place) }
+    ensures there { IfSome result (λ p. p < length table.now.types) }
+{
+    let TypeMeta::Struct { fields, .. } = table.get(place?) else {
+        return None;
+    };
+    nearest(table, name, fields.as_slice())
+}
+
+// The type behind further names.
+fn follow(table: &Table, place: Option<u32>, names: &[u32]) -> Option<u32>
+    requires names { AreBelow (length table.now.names) names.now }
+    requires place { IfSome place (λ p. p < length table.now.types) }
+    ensures found { option_map (tree table.now) result ≡ follow (option_map (tree table.now) place) (map (name_at table.now.names) names.now) }
+    ensures there { IfSome result (λ p. p < length table.now.types) }
+{
+    let mut at = place;
+    for name in names {
+        at = member(table, *name, at);
+    }
+    at
+}
+
+// The type of a field of the innermost structure that has one of this name, or behind it.
+fn from_inside(table: &Table, frames: &[Frame], name: u32, names: &[u32]) -> Option<u32>
+    requires frames { FramesIn table.now frames.now }
+    requires name { name < length table.now.names }
+    requires names { AreBelow (length table.now.names) names.now }
+    ensures found { option_map (tree table.now) result ≡ from_inside (map (frame_at table.now) (reverse frames.now)) (name_at table.now.names name) (map (name_at table.now.names) names.now) }
+    ensures there { IfSome result (λ p. p < length table.now.types) }
+{
+    let [outer @ .., inner] = frames else {
+        return None;
+    };
+    match in_frame(table, inner, name) {
+        Some(place) => follow(table, Some(place), names),
+        None => from_inside(table, outer, name, names),
+    }
+}
+
+// The field of this name of a structure that is being read.
+fn in_frame(table: &Table, frame: &Frame, name: u32) -> Option<u32>
+    requires frame { FrameIn table.now frame.now }
+    requires name { name < length table.now.names }
+    ensures found { option_map (tree table.now) result ≡ in_frame (name_at table.now.names name) (frame_at table.now frame.now) }
+    ensures there { IfSome result (λ p. p < length table.now.types) }
+{
+    if frame.is_struct {
+        nearest(table, name, frame.fields.as_slice())
+    } else {
+        None
+    }
+}
+
+// The type of a way from the outermost structure on, through those that are being read.
+fn from_outside(table: &Table, frames: &[Frame], names: &[u32]) -> Option<u32>
+    requires frames { FramesIn table.now frames.now }
+    requires names { AreBelow (length table.now.names) names.now }
+    ensures found { option_map (tree table.now) result ≡ from_outside (map (frame_at table.now) frames.now) (map (name_at table.now.names) names.now) }
+    ensures there { IfSome result (λ p. p < length table.now.types) }
+{
+    let [frame, inner @ ..] = frames else {
+        return None;
+    };
+    let [name, rest @ ..] = names else {
+        return None;
+    };
+    if is_inner(table, *name, frame.inner) {
+        from_outside(table, inner, rest)
+    } else {
+        let place = nearest(table, *name, frame.fields.as_slice());
+        follow(table, place, rest)
+    }
+}
+
+// Whether the structure of this name is being read.
+fn is_inner(table: &Table, name: u32, inner: Option<u32>) -> bool
+    requires name { name < length table.now.names }
+    requires inner { IfHere (λ n. n < length table.now.names) inner }
+    ensures { result ≡ is_inner (name_at table.now.names name) (option_map (name_at table.now.names) inner) }
+{
+    match inner {
+        Some(inner) => is_same_name(table.name(name), table.name(inner)),
+        None => false,
+    }
+}
+
+// Whether a way leads to a type that it may lead to.
+fn verdict(table: &Table, want: Want, place: Option<u32>) -> Judgement
+    requires { IfSome place (λ p. p < length table.now.types) }
+    ensures { result ≡ verdict (suits_if_any want (option_map (tree table.now) place)) }
+{
+    match place {
+        Some(place) if suits(table, want, place) => Judgement::Holds,
+        _ => Judgement::Breaks,
+    }
+}
+
+/// What is said of a way where these frames are being read and these scopes can be.
+#[tactic(auto, using(crate::proofs::Inside::outermost_first))]
+pub fn judge(
+    table: &Table,
+    around: Around,
+    frames: &[Frame],
+    scopes: ScopePlaces,
+    want: Want,
+    way: &Reference,
+) -> Judgement
+    requires frames { FramesIn table.now frames.now }
+    requires scopes { ScopesIn table.now scopes }
+    requires way { AreBelow (length table.now.names) way.now.words }
+    ensures { result ≡ judge around (map (frame_at table.now) (reverse frames.now)) (scopes_at table.now scopes) want way.now.scope (map (name_at table.now.names) way.now.words) }
+{
+    match (way.scope, around.reading) {
+        (None, _) => judge_here(table, frames, want, way.words.as_slice()),
+        (Some(_), None) => Judgement::Breaks,
+        (Some(scope), Some(reading)) if rank(scope) == rank(reading) => {
+            let place = from_outside(table, frames, way.words.as_slice());
+            verdict(table, want, place)
+        }
+        (Some(scope), Some(reading)) if rank(scope) < rank(reading) => {
+            judge_earlier(table, around, scopes, want, scope, way.words.as_slice())
+        }
+        _ => Judgement::Breaks,
+    }
+}
+
+// A way that begins in the innermost structure.
+fn judge_here(table: &Table, frames: &[Frame], want: Want, names: &[u32]) -> Judgement
+    requires frames { FramesIn table.now frames.now }
+    requires names { AreBelow (length table.now.names) names.now }
+    ensures { result ≡ judge_here (map (frame_at table.now) (reverse frames.now)) want (map (name_at table.now.names) names.now) }
+{
+    match names {
+        [name, rest @ ..] => verdict(table, want, from_inside(table, frames, *name, rest)),
+        [] => Judgement::Breaks,
+    }
+}
+
+// A way into a scope that is read before.
+fn judge_earlier(
+    table: &Table,
+    around: Around,
+    scopes: ScopePlaces,
+    want: Want,
+    scope: ScopeName,
+    names: &[u32],
+) -> Judgement
+    requires scopes { ScopesIn table.now scopes }
+    requires names { AreBelow (length table.now.names) names.now }
+    ensures { result ≡ judge_earlier around want scope (map (name_at table.now.names) names.now) (scope_type scope (scopes_at table.now scopes)) }
+{
+    match scopes.of(scope) {
+        Some(place) => verdict(table, want, follow(table, Some(place), names)),
+        None if is_written(around.written, scope) => Judgement::Waits,
+        None => Judgement::Breaks,
+    }
+}
+
+fn rank(scope: ScopeName) -> u8
+    ensures { result ≡ rank scope }
+{
+    match scope {
+        ScopeName::PacketHeader => 0,
+        ScopeName::PacketContext => 1,
+        ScopeName::EventHeader => 2,
+        ScopeName::StreamContext => 3,
+        ScopeName::EventContext => 4,
+        ScopeName::EventFields => 5,
+    }
+}
+
+fn is_written(written: Written, scope: ScopeName) -> bool
+    ensures { result ≡ is_written scope written }
+{
+    match scope {
+        ScopeName::PacketHeader => written.packet_header,
+        ScopeName::PacketContext => written.packet_context,
+        ScopeName::EventHeader => written.event_header,
+        ScopeName::StreamContext => written.stream_context,
+        ScopeName::EventContext => written.event_context,
+        ScopeName::EventFields => written.event_fields,
+    }
+}
+
+/// Whether each way leads to what it may lead to, where these scopes can be read.
+pub fn all_lead(table: &Table, scopes: ScopePlaces, later: &[Later]) -> bool
+    requires scopes { ScopesIn table.now scopes }
+    requires later { LatersIn table.now later.now }
+    ensures { result ≡ all_lead (scopes_at table.now scopes) (map (later_at table.now) later.now) }
+{
+    for way in later {
+        if !leads(table, scopes, way) {
+            return false;
+        }
+    }
+    true
+}
+
+fn leads(table: &Table, scopes: ScopePlaces, way: &Later) -> bool
+    requires scopes { ScopesIn table.now scopes }
+    requires way { LaterIn table.now way.now }
+    ensures { result ≡ leads (scopes_at table.now scopes) (later_at table.now way.now) }
+{
+    match follow(table, scopes.of(way.scope), way.words.as_slice()) {
+        Some(place) => suits(table, way.want, place),
+        None => false,
+    }
+}

@@ -1,5 +1,0 @@
-use Rattle.std.proofs.Common.{length}
-use Rattle.tsdl_types.proofs.lists.+lists.Given as goal
-
-abbrev pub decreases-lists : goal.decreases-lists
-decreases-lists l = length l.dims.now

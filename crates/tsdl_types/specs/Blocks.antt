@@ -1,0 +1,308 @@
+-- The blocks of a text and what they tell (CTF 1.8, sections 5 to 7). An entry is judged where it ends; what is missing, and what is wrong by what isn't written, at the closing brace.
+use Rattle.std.specs.Prelude.{ℕ, pos, Bool, true, false, not, ◌&&◌, ◌||◌, if◌then◌else◌, List, [], ◌∷◌, ◌++◌, Option, Some, None, is_some, unwrap_or, codes, Result, Ok, Err, ◌≡◌}
+use Rattle.trace_types.specs.declared.byte_order.ByteOrderKind.{ByteOrderKind}
+use Rattle.tsdl_parser.specs.declared.tree.Attr.{Attr}
+use Rattle.tsdl_parser.specs.declared.tree.AttrValue.{AttrValue}
+use Rattle.tsdl_parser.specs.declared.tree.AttrValue.TheVariants as value
+use Rattle.tsdl_parser.specs.declared.tree.BlockKind.{BlockKind}
+use Rattle.tsdl_parser.specs.declared.tree.BlockKind.TheVariants.{Trace, Stream, Event, Clock, Env, Callsite}
+use Rattle.tsdl_parser.specs.declared.tree.Entry.{Entry}
+use Rattle.tsdl_parser.specs.declared.tree.Entry.TheVariants as entry
+use Rattle.known_types.specs.declared.around.Around.{Around}
+use Rattle.known_types.specs.declared.around.Written.{Written}
+use Rattle.type_table.specs.declared.cause.MetaItemCause.{MetaItemCause}
+use Rattle.type_table.specs.declared.fault.Fault.{Fault}
+use Rattle.type_table.specs.declared.fault.Fault.TheVariants.{Breaks, OutOfMemory}
+use Rattle.type_table.specs.declared.cause.MetaItemCause.TheVariants.{DuplicateId, BadAttribute, BadReference}
+use Rattle.type_table.specs.declared.meta.ScopeName.{ScopeName}
+use Rattle.type_table.specs.declared.meta.ScopeName.TheVariants.{PacketHeader, PacketContext, EventHeader, StreamContext, EventContext, EventFields}
+use Rattle.type_table.specs.declared.told.ClockRate.{ClockRate}
+use Rattle.type_table.specs.declared.told.EventId.{EventId}
+use Rattle.known_types.specs.declared.way.Use.TheVariants as used
+use Rattle.known_types.specs.Known.{Step, Good, ◌>>=◌, ◌>>◌, pure, breaks, needs, scope_set, with_later, with_scopes}
+use Rattle.known_types.specs.References.{all_lead}
+use Rattle.known_types.specs.Telling.{has_clock, has_event, stream_of, scopes_begun, telling, with_clock, with_event_named, with_hostname, with_stream, with_trace_read, with_uuid}
+use Rattle.type_rules.specs.Typing.{fields_within, used_as}
+use Rattle.tsdl_types.specs.Uuids.{uuid_said}
+use Rattle.type_rules.specs.Limits.{MAX_BRACES}
+use Rattle.tsdl_parser.specs.declared.tree.TypeTree.{TypeTree}
+use Rattle.type_table.specs.Types.{Text}
+use Rattle.type_rules.specs.Attributes.{same_words, is_seen, noted, is_named, said, value_named, id_said, freq_said, offset_said, is_version, trace_order_said}
+
+-- ---- entries
+
+abbrev pub path_of : Entry → List Text
+path_of (entry.Assign a) = a.path
+path_of (entry.Declare path ty) = path
+
+-- the entries that have a value
+abbrev pub attrs_in : List Entry → List Attr
+attrs_in [] = []
+attrs_in (entry.Assign a ∷ es) = a ∷ attrs_in es
+attrs_in (entry.Declare path ty ∷ es) = attrs_in es
+
+-- an entry of a type for this path
+abbrev pub is_declared : List Text → List Entry → Bool
+is_declared path [] = false
+is_declared path (entry.Assign a ∷ es) = is_declared path es
+is_declared path (entry.Declare p ty ∷ es) = same_words p path || is_declared path es
+
+-- an entry of a value for this word
+abbrev pub is_assigned : Text → List Entry → Bool
+is_assigned name entries = is_some (value_named name (attrs_in entries))
+
+abbrev pub two : Text → Text → List Text
+two a b = a ∷ b ∷ []
+
+-- ---- scopes
+
+abbrev pub first_scope : List (Bool × ScopeName) → Option ScopeName
+first_scope [] = None
+first_scope (s ∷ ss) = if s.0 then Some s.1 else first_scope ss
+
+-- the scope whose type an entry of a block gives
+abbrev pub scope_given : BlockKind → List Text → Option ScopeName
+scope_given Trace path = first_scope ((same_words path (two (codes "packet") (codes "header")), PacketHeader) ∷ [])
+scope_given Stream path = first_scope (
+    (same_words path (two (codes "packet") (codes "context")), PacketContext)
+    ∷ (same_words path (two (codes "event") (codes "header")), EventHeader)
+    ∷ (same_words path (two (codes "event") (codes "context")), StreamContext) ∷ [])
+scope_given Event path = first_scope (
+    (same_words path (codes "context" ∷ []), EventContext)
+    ∷ (same_words path (codes "fields" ∷ []), EventFields) ∷ [])
+scope_given _ path = None
+
+abbrev pub nothing_written : Written
+nothing_written = record { packet_header = false; packet_context = false; event_header = false; stream_context = false; event_context = false; event_fields = false }
+
+-- the scopes that a block has entries for
+abbrev pub written : BlockKind → List Entry → Written
+written Trace es = record { packet_header = is_declared (two (codes "packet") (codes "header")) es; packet_context = false; event_header = false; stream_context = false; event_context = false; event_fields = false }
+written Stream es = record { packet_header = false; packet_context = is_declared (two (codes "packet") (codes "context")) es; event_header = is_declared (two (codes "event") (codes "header")) es; stream_context = is_declared (two (codes "event") (codes "context")) es; event_context = false; event_fields = false }
+written Event es = record { packet_header = false; packet_context = false; event_header = false; stream_context = false; event_context = is_declared (codes "context" ∷ []) es; event_fields = is_declared (codes "fields" ∷ []) es }
+written _ es = nothing_written
+
+-- ---- values
+
+abbrev pub is_one_of : List Text → List Text → Bool
+is_one_of [] path = false
+is_one_of (name ∷ names) path = same_words path (name ∷ []) || is_one_of names path
+
+-- the attributes of a block that have values
+abbrev pub values_of : BlockKind → List Text
+values_of Trace = codes "byte_order" ∷ codes "major" ∷ codes "uuid" ∷ []
+values_of Stream = codes "id" ∷ []
+values_of Event = codes "name" ∷ codes "id" ∷ codes "stream_id" ∷ []
+values_of Clock = codes "name" ∷ codes "freq" ∷ codes "offset" ∷ codes "offset_s" ∷ []
+values_of Env = codes "hostname" ∷ []
+values_of Callsite = []
+
+-- words with a dot between them
+abbrev pub dotted_on : List Text → Text
+dotted_on [] = []
+dotted_on (w ∷ ws) = codes "." ++ (w ++ dotted_on ws)
+
+abbrev pub dotted : List Text → Text
+dotted [] = []
+dotted (w ∷ ws) = w ++ dotted_on ws
+
+-- a name is a text or a path
+abbrev pub name_said : AttrValue → Option Text
+name_said (value.Signed z) = None
+name_said (value.Str text) = Some text
+name_said (value.Path words) = Some (dotted words)
+
+abbrev pub text_said : AttrValue → Option Text
+text_said (value.Str text) = Some text
+text_said _ = None
+
+-- the ids that a stream or an event has by what is written in its block
+abbrev pub id_in : Text → List Entry → ℕ
+id_in name entries = unwrap_or (said id_said name (attrs_in entries)) 0
+
+-- ---- what may be declared once
+
+abbrev pub new_stream : ℕ → Step (Unit {0})
+new_stream id = λ k. needs (not (is_some (stream_of id k.told))) DuplicateId k
+
+abbrev pub new_event : EventId → Step (Unit {0})
+new_event id = λ k. needs (not (has_event id k.told)) DuplicateId k
+
+abbrev pub stream_there : ℕ → Step (Unit {0})
+stream_there id = λ k. needs (is_some (stream_of id k.told)) BadReference k
+
+abbrev pub new_clock : Text → Step (Unit {0})
+new_clock name = λ k. needs (not (has_clock name k.told)) DuplicateId k
+
+-- ---- entries that have values, with all entries of the block and those behind
+
+-- what a test ensures
+abbrev pub Needs : Bool → MetaItemCause → Result (Unit {0}) Fault → Type 0
+Needs holds cause (Ok u) = holds ≡ true
+Needs holds cause (Err (Breaks c)) = (holds ≡ false) × (c ≡ cause)
+Needs holds cause (Err OutOfMemory) = ⊥
+
+abbrev pub reads : {A : Type 0} → Option A → Step (Unit {0})
+reads found = needs (is_some found) BadAttribute
+
+abbrev pub uuid_read : Option (List ℕ) → Step (Unit {0})
+uuid_read None = breaks BadAttribute
+uuid_read (Some u) = telling (with_uuid u)
+
+abbrev pub trace_value : Attr → Step (Unit {0})
+trace_value a =
+    if is_named (codes "byte_order") a then reads (trace_order_said a.value)
+    else if is_named (codes "major") a then needs (is_version a.value) BadAttribute
+    else if is_named (codes "uuid") a then uuid_read (uuid_said a.value)
+    else pure tt
+
+abbrev pub stream_value : Attr → Step (Unit {0})
+stream_value a =
+    if is_named (codes "id") a then reads (id_said a.value) >> new_stream (unwrap_or (id_said a.value) 0)
+    else pure tt
+
+-- what an event is found by, as far as it is written in its block
+abbrev pub event_id_in : List Entry → EventId
+event_id_in all = record { stream = id_in (codes "stream_id") all; id = id_in (codes "id") all }
+
+-- the pair of ids is judged at the last of the two that is written
+abbrev pub new_pair : Text → List Entry → List Entry → Step (Unit {0})
+new_pair other all behind = if is_assigned other behind then pure tt else new_event (event_id_in all)
+
+abbrev pub event_value : List Entry → List Entry → Attr → Step (Unit {0})
+event_value all behind a =
+    if is_named (codes "name") a then reads (name_said a.value)
+    else if is_named (codes "id") a then reads (id_said a.value) >> new_pair (codes "stream_id") all behind
+    else if is_named (codes "stream_id") a then reads (id_said a.value) >> new_pair (codes "id") all behind >> stream_there (unwrap_or (id_said a.value) 0)
+    else pure tt
+
+abbrev pub clock_value : Attr → Step (Unit {0})
+clock_value a =
+    if is_named (codes "name") a then reads (name_said a.value) >> new_clock (unwrap_or (name_said a.value) [])
+    else if is_named (codes "freq") a then reads (freq_said a.value)
+    else if is_named (codes "offset") a then reads (offset_said a.value)
+    else if is_named (codes "offset_s") a then reads (offset_said a.value)
+    else pure tt
+
+abbrev pub hostname_read : Option Text → Option Text → Step (Unit {0})
+hostname_read (Some known) found = pure tt
+hostname_read None None = breaks BadAttribute
+hostname_read None (Some name) = telling (with_hostname name)
+
+-- the first host's name counts, over all blocks
+abbrev pub env_value : Attr → Step (Unit {0})
+env_value a =
+    if is_named (codes "hostname") a then (λ k. hostname_read k.told.hostname (text_said a.value) k)
+    else pure tt
+
+abbrev pub value_by : BlockKind → List Entry → List Entry → Attr → Step (Unit {0})
+value_by Trace all behind a = trace_value a
+value_by Stream all behind a = stream_value a
+value_by Event all behind a = event_value all behind a
+value_by Clock all behind a = clock_value a
+value_by Env all behind a = env_value a
+value_by Callsite all behind a = pure tt
+
+-- ---- entries
+
+-- a path that stood before may not stand again, but in an environment
+abbrev pub is_again : BlockKind → Bool → Bool
+is_again Env stood = false
+is_again _ stood = stood
+
+-- around a type of an entry: the scope that it is of, if it is of one, and what the block has entries for
+abbrev pub around_entry : ByteOrderKind → BlockKind → List Entry → List Text → Around
+around_entry order kind all path = record { order = order; reading = scope_given kind path; written = written kind all }
+
+-- the type of a scope is a structure
+abbrev pub declared_by : ByteOrderKind → BlockKind → List Entry → Bool → List Text → TypeTree → Option ScopeName → Step (Unit {0})
+declared_by order kind all stood path ty None = do
+  used_as (fields_within MAX_BRACES (around_entry order kind all path)) (around_entry order kind all path) used.Name ty
+  needs (not (is_again kind stood || is_one_of (values_of kind) path)) BadAttribute
+declared_by order kind all stood path ty (Some scope) = do
+  t ← used_as (fields_within MAX_BRACES (around_entry order kind all path)) (around_entry order kind all path) used.Scope ty
+  needs (not (is_again kind stood)) BadAttribute
+  λ k. Good (tt, with_scopes (scope_set scope t k.scopes) k)
+
+abbrev pub assigned_by : BlockKind → List Entry → Bool → List Entry → Attr → Step (Unit {0})
+assigned_by kind all stood behind a =
+    needs (not (is_again kind stood || is_some (scope_given kind a.path))) BadAttribute >> value_by kind all behind a
+
+-- an entry, whose path stood before or not
+unfoldable pub entry_of : ByteOrderKind → BlockKind → List Entry → Bool → List Entry → Entry → Step (Unit {0})
+entry_of order kind all stood behind (entry.Assign a) = assigned_by kind all stood behind a
+entry_of order kind all stood behind (entry.Declare path ty) = declared_by order kind all stood path ty (scope_given kind path)
+
+-- behind entries of these paths
+abbrev pub entries_from : ByteOrderKind → BlockKind → List Entry → List (List Text) → List Entry → Step (Unit {0})
+entries_from order kind all seen [] = pure tt
+entries_from order kind all seen (e ∷ es) = entry_of order kind all (is_seen (path_of e) seen) es e >> entries_from order kind all (noted (path_of e) seen) es
+
+-- ---- blocks
+
+-- the stream whose scopes are read before those of a block
+abbrev pub stream_before : BlockKind → List Entry → Option ℕ
+stream_before Event all = Some (id_in (codes "stream_id") all)
+stream_before _ all = None
+
+abbrev pub started : BlockKind → List Entry → Step (Unit {0})
+started kind all = λ k. Good (tt, with_later [] (with_scopes (scopes_begun (stream_before kind all) k) k))
+
+abbrev pub ways_lead : Step (Unit {0})
+ways_lead = λ k. needs (all_lead k.scopes k.later) BadReference k
+
+abbrev pub trace_told : List Entry → Step (Unit {0})
+trace_told all = needs (is_assigned (codes "byte_order") all) BadAttribute >> ways_lead >> telling with_trace_read
+
+-- what isn't written is judged here; what was judged where it is written holds still
+abbrev pub stream_told : List Entry → Step (Unit {0})
+stream_told all =
+    new_stream (id_in (codes "id") all)
+    >> ways_lead
+    >> (λ k. telling (with_stream (id_in (codes "id") all) (record { packet_context = k.scopes.packet_context; event_header = k.scopes.event_header; event_context = k.scopes.stream_context })) k)
+
+-- the place of an event's name among the names, and the names with it
+abbrev pub name_in : List Entry → Text
+name_in all = unwrap_or (said name_said (codes "name") (attrs_in all)) []
+
+abbrev pub event_told : List Entry → Step (Unit {0})
+event_told all =
+    new_event (event_id_in all)
+    >> (if is_assigned (codes "stream_id") all then pure tt else stream_there 0)
+    >> ways_lead
+    >> (λ k. telling (with_event_named (name_in all) (event_id_in all) k.scopes.event_context k.scopes.event_fields) k)
+
+abbrev pub rate_in : List Entry → ClockRate
+rate_in all = record {
+  freq = unwrap_or (said freq_said (codes "freq") (attrs_in all)) 1000000000;
+  offset = unwrap_or (said offset_said (codes "offset") (attrs_in all)) (pos 0);
+  offset_s = unwrap_or (said offset_said (codes "offset_s") (attrs_in all)) (pos 0);
+}
+
+abbrev pub clock_told : List Entry → Step (Unit {0})
+clock_told all = needs (is_assigned (codes "name") all) BadAttribute >> new_clock (name_in all) >> telling (with_clock (name_in all) (rate_in all))
+
+abbrev pub told_by : BlockKind → List Entry → Step (Unit {0})
+told_by Trace all = trace_told all
+told_by Stream all = stream_told all
+told_by Event all = event_told all
+told_by Clock all = clock_told all
+told_by Env all = pure tt
+told_by Callsite all = pure tt
+
+abbrev pub entered_by : ByteOrderKind → BlockKind → List Entry → Step (Unit {0})
+entered_by order kind all = started kind all >> entries_from order kind all [] all >> told_by kind all
+
+abbrev pub is_passed_over : BlockKind → Bool
+is_passed_over Callsite = true
+is_passed_over _ = false
+
+abbrev pub is_trace : BlockKind → Bool
+is_trace Trace = true
+is_trace _ = false
+
+-- a second block of the trace is refused at its first word, and a callsite is passed over whole
+unfoldable pub block_of : ByteOrderKind → BlockKind → List Entry → Step (Unit {0})
+block_of order kind all =
+    if is_passed_over kind then pure tt
+    else ((λ k. needs (not (is_trace kind && k.told.is_trace_read)) DuplicateId k) >> entered_by order kind all)

@@ -1,0 +1,327 @@
+//! The blocks of a text and what they tell.
+ghost use Rattle.std.specs.Prelude.{◌≡◌, codes, pos, unwrap_or, IfOk};
+ghost use Rattle.type_rules.specs.Attributes.{freq_said, offset_said, said};
+ghost use Rattle.tsdl_types.specs.Blocks as blocks;
+ghost use Rattle.tsdl_types.specs.Blocks.{Needs};
+ghost use Rattle.tsdl_types.specs.Uuids.{uuid_said};
+ghost use Rattle.known_types.specs.Known.{Does};
+ghost use Rattle.known_types.specs.View.{state};
+
+use crate::entries::{name_said, value_in};
+use crate::uuids::uuid_said;
+use known_types::Known;
+use std::alloc::Global;
+use trace_types::{OutOfMemory, Text};
+use tsdl_parser::{Attr, AttrValue, BlockKind, Entry};
+use type_rules::{freq_said, id_said, is_named, is_version, offset_said, trace_order_said};
+use type_table::{ClockRate, EventId, Fault, MetaItemCause, StreamScopes};
+
+/// Refuses with a cause where this doesn't hold.
+pub fn needs(holds: bool, cause: MetaItemCause) -> Result<(), Fault>
+    ensures { Needs holds cause result }
+{
+    if holds {
+        Ok(())
+    } else {
+        Err(Fault::Breaks(cause))
+    }
+}
+
+// An attribute of a trace.
+fn trace_value(types: &mut Known, attr: &Attr) -> Result<(), Fault>
+    ensures { Does (blocks.trace_value attr.now (state types.old).known) result (state types.new) }
+{
+    if is_named(attr, b"byte_order") {
+        needs(
+            trace_order_said(&attr.value).is_some(),
+            MetaItemCause::BadAttribute,
+        )
+    } else if is_named(attr, b"major") {
+        needs(is_version(&attr.value), MetaItemCause::BadAttribute)
+    } else if is_named(attr, b"uuid") {
+        uuid_value(types, &attr.value)
+    } else {
+        Ok(())
+    }
+}
+
+// The trace's unique id.
+fn uuid_value(types: &mut Known, value: &AttrValue) -> Result<(), Fault>
+    ensures { Does (blocks.uuid_read (uuid_said value.now) (state types.old).known) result (state types.new) }
+{
+    match uuid_said(value) {
+        Some(uuid) => {
+            types.tell_uuid(uuid);
+            Ok(())
+        }
+        None => Err(Fault::Breaks(MetaItemCause::BadAttribute)),
+    }
+}
+
+// An attribute of a stream.
+fn stream_value(types: &mut Known, attr: &Attr) -> Result<(), Fault>
+    ensures { Does (blocks.stream_value attr.now (state types.old).known) result (state types.new) }
+{
+    if !is_named(attr, b"id") {
+        return Ok(());
+    }
+    let Some(id) = id_said(&attr.value) else {
+        return Err(Fault::Breaks(MetaItemCause::BadAttribute));
+    };
+    new_stream(types, id)
+}
+
+fn new_stream(types: &mut Known, id: u64) -> Result<(), Fault>
+    ensures { Does (blocks.new_stream id (state types.old).known) result (state types.new) }
+{
+    needs(types.stream(id).is_none(), MetaItemCause::DuplicateId)
+}
+
+fn stream_there(types: &mut Known, id: u64) -> Result<(), Fault>
+    ensures { Does (blocks.stream_there id (state types.old).known) result (state types.new) }
+{
+    needs(types.stream(id).is_some(), MetaItemCause::BadReference)
+}
+
+fn new_event(types: &mut Known, event: EventId) -> Result<(), Fault>
+    ensures { Does (blocks.new_event event (state types.old).known) result (state types.new) }
+{
+    needs(!types.has_event(event), MetaItemCause::DuplicateId)
+}
+
+/// The id that is written in a block, or 0.
+pub fn id_in(name: &[u8], entries: &[Entry]) -> u64
+    ensures { result ≡ blocks.id_in name.now entries.now }
+{
+    match value_in(entries, name) {
+        Some(value) => id_said(value).unwrap_or(0),
+        None => 0,
+    }
+}
+
+fn event_id_in(all: &[Entry]) -> EventId
+    ensures { result ≡ blocks.event_id_in all.now }
+{
+    EventId {
+        stream: id_in(b"stream_id", all),
+        id: id_in(b"id", all),
+    }
+}
+
+// The pair of an event's ids is judged at the last of the two that is written.
+fn new_pair(types: &mut Known, other: &[u8], all: &[Entry], behind: &[Entry]) -> Result<(), Fault>
+    ensures { Does (blocks.new_pair other.now all.now behind.now (state types.old).known) result (state types.new) }
+{
+    if value_in(behind, other).is_some() {
+        Ok(())
+    } else {
+        new_event(types, event_id_in(all))
+    }
+}
+
+// An attribute of an event.
+fn event_value(
+    types: &mut Known,
+    alloc: Global,
+    all: &[Entry],
+    behind: &[Entry],
+    attr: &Attr,
+) -> Result<(), Fault>
+    ensures { Does (blocks.event_value all.now behind.now attr.now (state types.old).known) result (state types.new) }
+{
+    if is_named(attr, b"name") {
+        let name = name_said(alloc, &attr.value)?;
+        needs(name.is_some(), MetaItemCause::BadAttribute)
+    } else if is_named(attr, b"id") {
+        needs(id_said(&attr.value).is_some(), MetaItemCause::BadAttribute)?;
+        new_pair(types, b"stream_id", all, behind)
+    } else if is_named(attr, b"stream_id") {
+        needs(id_said(&attr.value).is_some(), MetaItemCause::BadAttribute)?;
+        new_pair(types, b"id", all, behind)?;
+        stream_there(types, id_said(&attr.value).unwrap_or(0))
+    } else {
+        Ok(())
+    }
+}
+
+// An attribute of a clock.
+fn clock_value(types: &mut Known, alloc: Global, attr: &Attr) -> Result<(), Fault>
+    ensures { Does (blocks.clock_value attr.now (state types.old).known) result (state types.new) }
+{
+    if is_named(attr, b"name") {
+        let Some(name) = name_said(alloc, &attr.value)? else {
+            return Err(Fault::Breaks(MetaItemCause::BadAttribute));
+        };
+        needs(!types.has_clock(&name), MetaItemCause::DuplicateId)
+    } else if is_named(attr, b"freq") {
+        needs(
+            freq_said(&attr.value).is_some(),
+            MetaItemCause::BadAttribute,
+        )
+    } else if is_named(attr, b"offset") || is_named(attr, b"offset_s") {
+        needs(
+            offset_said(&attr.value).is_some(),
+            MetaItemCause::BadAttribute,
+        )
+    } else {
+        Ok(())
+    }
+}
+
+// An attribute of an environment. The first host's name counts.
+fn env_value(types: &mut Known, alloc: Global, attr: &Attr) -> Result<(), Fault>
+    ensures { Does (blocks.env_value attr.now (state types.old).known) result (state types.new) }
+{
+    if !is_named(attr, b"hostname") || types.has_hostname() {
+        return Ok(());
+    }
+    let AttrValue::Str(text) = &attr.value else {
+        return Err(Fault::Breaks(MetaItemCause::BadAttribute));
+    };
+    let name = Text::from_bytes(alloc, text.as_bytes())?;
+    types.tell_hostname(name);
+    Ok(())
+}
+
+/// An attribute of a block that has a value. Behind it are these entries.
+pub fn value_of(
+    types: &mut Known,
+    alloc: Global,
+    kind: BlockKind,
+    all: &[Entry],
+    behind: &[Entry],
+    attr: &Attr,
+) -> Result<(), Fault>
+    ensures { Does (blocks.value_by kind all.now behind.now attr.now (state types.old).known) result (state types.new) }
+{
+    match kind {
+        BlockKind::Trace => trace_value(types, attr),
+        BlockKind::Stream => stream_value(types, attr),
+        BlockKind::Event => event_value(types, alloc, all, behind, attr),
+        BlockKind::Clock => clock_value(types, alloc, attr),
+        BlockKind::Env => env_value(types, alloc, attr),
+        BlockKind::Callsite => Ok(()),
+    }
+}
+
+/// What the end of a block tells.
+pub fn told_by(
+    types: &mut Known,
+    alloc: Global,
+    kind: BlockKind,
+    all: &[Entry],
+) -> Result<(), Fault>
+    ensures { Does (blocks.told_by kind all.now (state types.old).known) result (state types.new) }
+{
+    match kind {
+        BlockKind::Trace => trace_told(types, all),
+        BlockKind::Stream => stream_told(types, all),
+        BlockKind::Event => event_told(types, alloc, all),
+        BlockKind::Clock => clock_told(types, alloc, all),
+        BlockKind::Env | BlockKind::Callsite => Ok(()),
+    }
+}
+
+fn ways_lead(types: &mut Known) -> Result<(), Fault>
+    ensures step { Does (blocks.ways_lead (state types.old).known) result (state types.new) }
+    ensures stays { types.new ≡ types.old }
+{
+    needs(types.ways_lead(), MetaItemCause::BadReference)
+}
+
+fn trace_told(types: &mut Known, all: &[Entry]) -> Result<(), Fault>
+    ensures { Does (blocks.trace_told all.now (state types.old).known) result (state types.new) }
+{
+    needs(
+        value_in(all, b"byte_order").is_some(),
+        MetaItemCause::BadAttribute,
+    )?;
+    ways_lead(types)?;
+    types.tell_trace();
+    Ok(())
+}
+
+fn clock_told(types: &mut Known, alloc: Global, all: &[Entry]) -> Result<(), Fault>
+    ensures { Does (blocks.clock_told all.now (state types.old).known) result (state types.new) }
+{
+    needs(
+        value_in(all, b"name").is_some(),
+        MetaItemCause::BadAttribute,
+    )?;
+    let name = name_in(alloc, all)?;
+    needs(!types.has_clock(&name), MetaItemCause::DuplicateId)?;
+    types.tell_clock(name, rate_in(all))?;
+    Ok(())
+}
+
+// The name that is written in a block, or none.
+fn name_in(alloc: Global, all: &[Entry]) -> Result<Text, OutOfMemory>
+    ensures { IfOk result (λ name. name ≡ blocks.name_in all.now) }
+{
+    match value_in(all, b"name") {
+        Some(value) => match name_said(alloc, value)? {
+            Some(name) => Ok(name),
+            None => Text::from_bytes(alloc, &[]),
+        },
+        None => Text::from_bytes(alloc, &[]),
+    }
+}
+
+fn rate_in(all: &[Entry]) -> ClockRate
+    ensures { result ≡ blocks.rate_in all.now }
+{
+    ClockRate {
+        freq: freq_in(all),
+        offset: offset_in(b"offset", all),
+        offset_s: offset_in(b"offset_s", all),
+    }
+}
+
+fn freq_in(all: &[Entry]) -> u64
+    ensures { result ≡ unwrap_or (said freq_said (codes "freq") (blocks.attrs_in all.now)) 1000000000 }
+{
+    match value_in(all, b"freq") {
+        Some(value) => freq_said(value).unwrap_or(1_000_000_000),
+        None => 1_000_000_000,
+    }
+}
+
+fn offset_in(name: &[u8], all: &[Entry]) -> i128
+    ensures { result ≡ unwrap_or (said offset_said name.now (blocks.attrs_in all.now)) (pos 0) }
+{
+    match value_in(all, name) {
+        Some(value) => offset_said(value).unwrap_or(0),
+        None => 0,
+    }
+}
+
+fn stream_told(types: &mut Known, all: &[Entry]) -> Result<(), Fault>
+    ensures { Does (blocks.stream_told all.now (state types.old).known) result (state types.new) }
+{
+    let id = id_in(b"id", all);
+    new_stream(types, id)?;
+    ways_lead(types)?;
+    let scopes = types.scopes();
+    let scopes = StreamScopes {
+        packet_context: scopes.packet_context,
+        event_header: scopes.event_header,
+        event_context: scopes.stream_context,
+    };
+    types.tell_stream(id, scopes)?;
+    Ok(())
+}
+
+fn event_told(types: &mut Known, alloc: Global, all: &[Entry]) -> Result<(), Fault>
+    ensures { Does (blocks.event_told all.now (state types.old).known) result (state types.new) }
+{
+    let event = event_id_in(all);
+    new_event(types, event)?;
+    if value_in(all, b"stream_id").is_none() {
+        stream_there(types, 0)?;
+    }
+    ways_lead(types)?;
+    let name = name_in(alloc, all)?;
+    let scopes = types.scopes();
+    types.tell_event(name, event, scopes.event_context, scopes.event_fields)?;
+    Ok(())
+}

@@ -1,0 +1,214 @@
+//! Blocks, entry by entry.
+ghost use Rattle.std.specs.Prelude.{◌≡◌, [], OnOk};
+ghost use Rattle.tsdl_types.specs.Blocks as blocks;
+ghost use Rattle.tsdl_types.specs.Blocks.{path_of};
+ghost use Rattle.type_rules.specs.Attributes.{is_seen, noted};
+ghost use Rattle.known_types.specs.Known.{Does};
+ghost use Rattle.known_types.specs.View.{state};
+
+use crate::blocks::{id_in, needs, told_by, value_of};
+use crate::entries::{path_of, scope_given};
+use crate::items::MAX_BRACES;
+use crate::scopes::{is_value, written};
+use known_types::{Around, Known, Use, Written};
+use std::alloc::Global;
+use trace_types::{ByteOrderKind, Text};
+use tsdl_parser::{Attr, BlockKind, Entry, TypeTree};
+use type_rules::{SeenPaths, used_as};
+use type_table::{Fault, MetaItemCause};
+
+// The entries of a block of a kind, where the trace has this byte order, and the scopes that it has entries for.
+#[derive(Clone, Copy)]
+struct Block<'a> {
+    order: ByteOrderKind,
+    kind: BlockKind,
+    all: &'a [Entry],
+    written: Written,
+}
+
+/// What a block tells.
+#[tactic(auto, unfolding(crate::specs::Blocks::block_of))]
+pub fn block_of(
+    types: &mut Known,
+    alloc: Global,
+    order: ByteOrderKind,
+    kind: BlockKind,
+    all: &[Entry],
+) -> Result<(), Fault>
+    ensures { Does (blocks.block_of order kind all.now (state types.old).known) result (state types.new) }
+{
+    if is_passed_over(kind) {
+        return Ok(());
+    }
+    let again = is_trace(kind) && types.is_trace_read();
+    needs(!again, MetaItemCause::DuplicateId)?;
+    let block = Block {
+        order,
+        kind,
+        all,
+        written: written(kind, all),
+    };
+    entered_by(types, alloc, block)
+}
+
+// Whether a block of this kind is passed over whole.
+fn is_passed_over(kind: BlockKind) -> bool
+    ensures { result ≡ blocks.is_passed_over kind }
+{
+    matches!(kind, BlockKind::Callsite)
+}
+
+fn is_trace(kind: BlockKind) -> bool
+    ensures { result ≡ blocks.is_trace kind }
+{
+    matches!(kind, BlockKind::Trace)
+}
+
+fn entered_by(types: &mut Known, alloc: Global, block: Block<'_>) -> Result<(), Fault>
+    requires { block.written ≡ blocks.written block.kind block.all.now }
+    ensures { Does (blocks.entered_by block.entry.order block.entry.kind block.entry.all.now (state types.old).known) result (state types.new) }
+{
+    types.begin(alloc, stream_before(block.kind, block.all));
+    entries_of(types, alloc, block)?;
+    told_by(types, alloc, block.kind, block.all)
+}
+
+// The stream whose scopes are read before those of a block.
+fn stream_before(kind: BlockKind, all: &[Entry]) -> Option<u64>
+    ensures { result ≡ blocks.stream_before kind all.now }
+{
+    match kind {
+        BlockKind::Event => Some(id_in(b"stream_id", all)),
+        _ => None,
+    }
+}
+
+fn entries_of(types: &mut Known, alloc: Global, block: Block<'_>) -> Result<(), Fault>
+    requires { block.written ≡ blocks.written block.kind block.all.now }
+    ensures { Does (blocks.entries_from block.entry.order block.entry.kind block.entry.all.now [] block.entry.all.now (state types.old).known) result (state types.new) }
+{
+    let seen = SeenPaths::with_capacity(alloc, block.all.len())?;
+    entries_behind(types, alloc, block, seen)
+}
+
+// Entries behind those of these paths.
+fn entries_behind<'a>(
+    types: &mut Known,
+    alloc: Global,
+    block: Block<'a>,
+    mut seen: SeenPaths<'a>,
+) -> Result<(), Fault>
+    requires { block.written ≡ blocks.written block.kind block.all.now }
+    ensures { Does (blocks.entries_from block.entry.order block.entry.kind block.entry.all.now seen.entry block.entry.all.now (state types.old).known) result (state types.new) }
+{
+    for at in 0..block.all.len() {
+        let behind = &block.all[at + 1..];
+        next_entry(types, alloc, block, &mut seen, behind, &block.all[at])?;
+    }
+    Ok(())
+}
+
+// An entry behind entries of these paths, to which its own is added.
+fn next_entry<'a>(
+    types: &mut Known,
+    alloc: Global,
+    block: Block<'_>,
+    seen: &mut SeenPaths<'a>,
+    behind: &[Entry],
+    entry: &'a Entry,
+) -> Result<(), Fault>
+    requires { block.written ≡ blocks.written block.kind block.all.now }
+    ensures step { Does (blocks.entry_of block.entry.order block.entry.kind block.entry.all.now (is_seen (path_of entry.now) seen.old) behind.now entry.now (state types.old).known) result (state types.new) }
+    ensures noted { OnOk result (seen.new ≡ noted (path_of entry.now) seen.old) }
+{
+    let stood = seen.note(path_of(entry))?;
+    entry_of(types, alloc, block, stood, behind, entry)
+}
+
+#[tactic(auto, unfolding(crate::specs::Blocks::entry_of))]
+fn entry_of(
+    types: &mut Known,
+    alloc: Global,
+    block: Block<'_>,
+    stood: bool,
+    behind: &[Entry],
+    entry: &Entry,
+) -> Result<(), Fault>
+    requires { block.written ≡ blocks.written block.kind block.all.now }
+    ensures { Does (blocks.entry_of block.entry.order block.entry.kind block.entry.all.now stood behind.now entry.now (state types.old).known) result (state types.new) }
+{
+    match entry {
+        Entry::Assign(attr) => assigned_by(types, alloc, block, stood, behind, attr),
+        Entry::Declare { path, ty } => {
+            declared_by(types, alloc, block, stood, path.as_slice(), ty)
+        }
+    }
+}
+
+// An entry that has a value.
+fn assigned_by(
+    types: &mut Known,
+    alloc: Global,
+    block: Block<'_>,
+    stood: bool,
+    behind: &[Entry],
+    attr: &Attr,
+) -> Result<(), Fault>
+    ensures { Does (blocks.assigned_by block.entry.kind block.entry.all.now stood behind.now attr.now (state types.old).known) result (state types.new) }
+{
+    let path = attr.path.as_slice();
+    let breaks = is_again(block.kind, stood) || scope_given(block.kind, path).is_some();
+    needs(!breaks, MetaItemCause::BadAttribute)?;
+    value_of(types, alloc, block.kind, block.all, behind, attr)
+}
+
+// Whether a path stands again that may stand once.
+fn is_again(kind: BlockKind, stood: bool) -> bool
+    ensures { result ≡ blocks.is_again kind stood }
+{
+    match kind {
+        BlockKind::Env => false,
+        _ => stood,
+    }
+}
+
+// An entry that has a type. That of a scope is a structure.
+fn declared_by(
+    types: &mut Known,
+    alloc: Global,
+    block: Block<'_>,
+    stood: bool,
+    path: &[Text],
+    tree: &TypeTree,
+) -> Result<(), Fault>
+    requires { block.written ≡ blocks.written block.kind block.all.now }
+    ensures { Does (blocks.declared_by block.entry.order block.entry.kind block.entry.all.now stood path.now tree.now (blocks.scope_given block.entry.kind path.now) (state types.old).known) result (state types.new) }
+{
+    let around = around_entry(block, path);
+    match scope_given(block.kind, path) {
+        None => {
+            used_as(types, alloc, around, MAX_BRACES, Use::Name, tree)?;
+            let breaks = is_again(block.kind, stood) || is_value(block.kind, path);
+            needs(!breaks, MetaItemCause::BadAttribute)
+        }
+        Some(scope) => {
+            let place = used_as(types, alloc, around, MAX_BRACES, Use::Scope, tree)?;
+            let again = is_again(block.kind, stood);
+            needs(!again, MetaItemCause::BadAttribute)?;
+            types.set_scope(scope, place);
+            Ok(())
+        }
+    }
+}
+
+// What stands around a type of an entry.
+fn around_entry(block: Block<'_>, path: &[Text]) -> Around
+    requires { block.written ≡ blocks.written block.kind block.all.now }
+    ensures { result ≡ blocks.around_entry block.entry.order block.entry.kind block.entry.all.now path.now }
+{
+    Around {
+        order: block.order,
+        reading: scope_given(block.kind, path),
+        written: block.written,
+    }
+}

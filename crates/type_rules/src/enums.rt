@@ -1,0 +1,111 @@
+//! The types of enumerations.
+ghost use Rattle.std.specs.Prelude.{◌≡◌};
+ghost use Rattle.known_types.specs.Known.{Gives, Gives_too};
+ghost use Rattle.type_rules.specs.Typing as typing;
+ghost use Rattle.known_types.specs.View.{state};
+
+use crate::typing::{alias, declare, integer_type, known_as, new_name};
+use known_types::{Around, Known};
+use std::alloc::Global;
+use trace_types::Text;
+use tsdl_parser::{EnumBase, EnumTree, Label};
+use type_table::{Fault, MetaItemCause, NameKind};
+
+/// An enumeration, and whether it was declared before.
+#[tactic(auto, unfolding(crate::specs::Typing::enum_type))]
+pub fn enum_type(
+    types: &mut Known,
+    alloc: Global,
+    around: Around,
+    tree: &EnumTree,
+) -> Result<(u32, bool), Fault>
+    ensures { Gives_too (typing.enum_type around tree.now (state types.old).known) result (state types.new) }
+{
+    match (&tree.labels, &tree.name) {
+        (Some(labels), _) => {
+            let place = new_enum(types, alloc, around, tree, labels.as_slice())?;
+            Ok((place, false))
+        }
+        (None, Some(name)) => {
+            let place = known_enum(types, alloc, around, name, &tree.base)?;
+            Ok((place, true))
+        }
+        (None, None) => Err(Fault::Breaks(MetaItemCause::BadAttribute)),
+    }
+}
+
+#[tactic(auto, unfolding(crate::specs::Typing::new_enum))]
+fn new_enum(
+    types: &mut Known,
+    alloc: Global,
+    around: Around,
+    tree: &EnumTree,
+    labels: &[Label],
+) -> Result<u32, Fault>
+    ensures { Gives (typing.new_enum around tree.now.name tree.now.base labels.now (state types.old).known) result (state types.new) }
+{
+    let base = base_or_int(types, alloc, around, &tree.base)?;
+    new_name(types, NameKind::Enum, &tree.name)?;
+    if !types.is_whole(base) {
+        return Err(Fault::Breaks(MetaItemCause::BadAttribute));
+    }
+    let place = types.add_enum(alloc, base, labels)?;
+    declare(types, alloc, NameKind::Enum, &tree.name, place)?;
+    Ok(place)
+}
+
+// The base of an enumeration that was declared before is an integer, too, if it is given.
+fn known_enum(
+    types: &mut Known,
+    alloc: Global,
+    around: Around,
+    name: &Text,
+    base: &Option<EnumBase>,
+) -> Result<u32, Fault>
+    ensures { Gives (typing.known_enum around name.now base.now (state types.old).known) result (state types.new) }
+{
+    match base {
+        None => known_as(types, NameKind::Enum, name),
+        Some(base) => {
+            let base = base_type(types, alloc, around, base)?;
+            let place = known_as(types, NameKind::Enum, name)?;
+            if !types.is_whole(base) {
+                return Err(Fault::Breaks(MetaItemCause::BadAttribute));
+            }
+            Ok(place)
+        }
+    }
+}
+
+#[tactic(auto, unfolding(crate::specs::Typing::base_or_int))]
+fn base_or_int(
+    types: &mut Known,
+    alloc: Global,
+    around: Around,
+    base: &Option<EnumBase>,
+) -> Result<u32, Fault>
+    ensures { Gives (typing.base_or_int around base.now (state types.old).known) result (state types.new) }
+{
+    match base {
+        Some(base) => base_type(types, alloc, around, base),
+        None => {
+            let int = Text::from_bytes(alloc, b"int")?;
+            alias(types, alloc, &[int])
+        }
+    }
+}
+
+#[tactic(auto, unfolding(crate::specs::Typing::base_type))]
+fn base_type(
+    types: &mut Known,
+    alloc: Global,
+    around: Around,
+    base: &EnumBase,
+) -> Result<u32, Fault>
+    ensures { Gives (typing.base_type around base.now (state types.old).known) result (state types.new) }
+{
+    match base {
+        EnumBase::Integer(attrs) => integer_type(types, alloc, around, attrs.as_slice()),
+        EnumBase::Words(words) => alias(types, alloc, words.as_slice()),
+    }
+}

@@ -1,0 +1,226 @@
+//! Integers and what their attributes say.
+ghost use Rattle.std.specs.Prelude.{◌≡◌, ◌<◌, ◌^◌, [], codes, false, length, position, unwrap_or, IfErr, IfNone, IfOk, IfSome, None, Some};
+ghost use Rattle.indexmap.specs.IndexMap.{keys};
+ghost use Rattle.tsdl_parser.specs.Symbols.{is_text};
+ghost use Rattle.type_table.specs.Faults.{OnBreak};
+ghost use Rattle.type_rules.specs.Attributes.{align_said, clock_said, first_fault, integer_fault, integer_of, is_named, is_twice, order_said, own_fault, said, same_words, sign_said, size_said, unless, usual_align, value_named};
+
+use crate::seen::SeenPaths;
+use crate::values::{align_said, is_only, order_said, sign_said, size_said};
+use indexmap::IndexMap;
+use std::alloc::Global;
+use trace_types::{ByteOrderKind, OutOfMemory, Text};
+use tsdl_parser::{Attr, AttrValue};
+use type_table::{ClockRate, Fault, Integer, MetaItemCause};
+
+/// The integer of these attributes, or the cause of the first that breaks a rule. Its clock is one of those that
+/// were declared before.
+pub fn read_integer(
+    alloc: Global,
+    order: ByteOrderKind,
+    clocks: &IndexMap<Text, ClockRate>,
+    attrs: &[Attr],
+) -> Result<Integer, Fault>
+    requires { length (keys clocks.now) < 2 ^ 32 }
+    ensures sound { IfOk result (λ i. (integer_fault order clocks.now.entries attrs.now ≡ None) × (i ≡ integer_of order clocks.now.entries attrs.now)) }
+    ensures broken { OnBreak (λ cause. integer_fault order clocks.now.entries attrs.now ≡ Some cause) result }
+{
+    if let Some(cause) = integer_fault(alloc, order, clocks, attrs)? {
+        return Err(Fault::Breaks(cause));
+    }
+    let size = size_in(attrs);
+    Ok(Integer {
+        size,
+        align: align_in(attrs, size),
+        signed: sign_in(attrs),
+        order: order_in(order, attrs),
+        clock: clock_in(clocks, attrs),
+    })
+}
+
+fn size_in(attrs: &[Attr]) -> u32
+    ensures { result ≡ unwrap_or (said size_said (codes "size") attrs.now) 0 }
+{
+    match value_named(attrs, b"size") {
+        Some(value) => size_said(value).unwrap_or(0),
+        None => 0,
+    }
+}
+
+fn align_in(attrs: &[Attr], size: u32) -> u32
+    ensures { result ≡ unwrap_or (said align_said (codes "align") attrs.now) (usual_align size) }
+{
+    let usual = if size % 8 == 0 { 8 } else { 1 };
+    match value_named(attrs, b"align") {
+        Some(value) => align_said(value).unwrap_or(usual),
+        None => usual,
+    }
+}
+
+fn sign_in(attrs: &[Attr]) -> bool
+    ensures { result ≡ unwrap_or (said sign_said (codes "signed") attrs.now) false }
+{
+    match value_named(attrs, b"signed") {
+        Some(value) => sign_said(value).unwrap_or(false),
+        None => false,
+    }
+}
+
+fn order_in(order: ByteOrderKind, attrs: &[Attr]) -> ByteOrderKind
+    ensures { result ≡ unwrap_or (said (order_said order) (codes "byte_order") attrs.now) order }
+{
+    match value_named(attrs, b"byte_order") {
+        Some(value) => order_said(order, value).unwrap_or(order),
+        None => order,
+    }
+}
+
+fn clock_in(clocks: &IndexMap<Text, ClockRate>, attrs: &[Attr]) -> Option<u32>
+    requires { length (keys clocks.now) < 2 ^ 32 }
+    ensures { result ≡ said (clock_said clocks.now.entries) (codes "map") attrs.now }
+{
+    match value_named(attrs, b"map") {
+        Some(value) => clock_said(clocks, value),
+        None => None,
+    }
+}
+
+// The first attribute that stands twice or breaks its rule; at the closing brace, a size that is missing.
+fn integer_fault(
+    alloc: Global,
+    order: ByteOrderKind,
+    clocks: &IndexMap<Text, ClockRate>,
+    attrs: &[Attr],
+) -> Result<Option<MetaItemCause>, OutOfMemory>
+    requires { length (keys clocks.now) < 2 ^ 32 }
+    ensures { IfOk result (λ found. found ≡ integer_fault order clocks.now.entries attrs.now) }
+{
+    match first_fault(alloc, order, clocks, attrs)? {
+        Some(cause) => Ok(Some(cause)),
+        None => Ok(unless(
+            value_named(attrs, b"size").is_some(),
+            MetaItemCause::BadAttribute,
+        )),
+    }
+}
+
+// The first attribute that stands twice or breaks its rule.
+fn first_fault(
+    alloc: Global,
+    order: ByteOrderKind,
+    clocks: &IndexMap<Text, ClockRate>,
+    attrs: &[Attr],
+) -> Result<Option<MetaItemCause>, OutOfMemory>
+    requires { length (keys clocks.now) < 2 ^ 32 }
+    ensures { IfOk result (λ found. found ≡ first_fault order clocks.now.entries [] attrs.now) }
+{
+    let mut seen = SeenPaths::with_capacity(alloc, attrs.len())?;
+    for attr in attrs {
+        if seen.note(attr.path.as_slice())? {
+            return Ok(Some(MetaItemCause::BadAttribute));
+        }
+        if let Some(cause) = own_fault(order, clocks, attr) {
+            return Ok(Some(cause));
+        }
+    }
+    Ok(None)
+}
+
+/// Whether the braces of a string name an attribute twice.
+pub fn is_twice(alloc: Global, attrs: &[Attr]) -> Result<bool, OutOfMemory>
+    ensures { IfOk result (λ twice. twice ≡ is_twice [] attrs.now) }
+{
+    let mut seen = SeenPaths::with_capacity(alloc, attrs.len())?;
+    for attr in attrs {
+        if seen.note(attr.path.as_slice())? {
+            return Ok(true);
+        }
+    }
+    Ok(false)
+}
+
+// An attribute that breaks its rule by itself.
+fn own_fault(
+    order: ByteOrderKind,
+    clocks: &IndexMap<Text, ClockRate>,
+    attr: &Attr,
+) -> Option<MetaItemCause>
+    requires { length (keys clocks.now) < 2 ^ 32 }
+    ensures { result ≡ own_fault order clocks.now.entries attr.now }
+{
+    let value = &attr.value;
+    if is_named(attr, b"size") {
+        unless(size_said(value).is_some(), MetaItemCause::BadAttribute)
+    } else if is_named(attr, b"align") {
+        unless(align_said(value).is_some(), MetaItemCause::BadAttribute)
+    } else if is_named(attr, b"signed") {
+        unless(sign_said(value).is_some(), MetaItemCause::BadAttribute)
+    } else if is_named(attr, b"byte_order") {
+        unless(
+            order_said(order, value).is_some(),
+            MetaItemCause::BadAttribute,
+        )
+    } else if is_named(attr, b"map") {
+        unless(
+            clock_said(clocks, value).is_some(),
+            MetaItemCause::BadReference,
+        )
+    } else {
+        None
+    }
+}
+
+fn unless(holds: bool, cause: MetaItemCause) -> Option<MetaItemCause>
+    ensures { result ≡ unless holds cause }
+{
+    if holds { None } else { Some(cause) }
+}
+
+/// The value of the attribute of this one word.
+pub fn value_named<'a>(attrs: &'a [Attr], name: &[u8]) -> Option<&'a AttrValue>
+    ensures found { IfSome result (λ value. value_named name.now attrs.now ≡ Some value.now) }
+    ensures none { IfNone result (value_named name.now attrs.now ≡ None) }
+{
+    for attr in attrs {
+        if is_named(attr, name) {
+            return Some(&attr.value);
+        }
+    }
+    None
+}
+
+/// Whether an attribute is of this one word.
+pub fn is_named(attr: &Attr, name: &[u8]) -> bool
+    ensures { result ≡ is_named name.now attr.now }
+{
+    is_only(attr.path.as_slice(), name)
+}
+
+// `clock.NAME.value`
+fn clock_said(clocks: &IndexMap<Text, ClockRate>, value: &AttrValue) -> Option<u32>
+    requires { length (keys clocks.now) < 2 ^ 32 }
+    ensures { result ≡ clock_said clocks.now.entries value.now }
+{
+    let AttrValue::Path(words) = value else {
+        return None;
+    };
+    let [clock, name, value] = words.as_slice() else {
+        return None;
+    };
+    if clock.as_bytes() == b"clock".as_slice() && value.as_bytes() == b"value".as_slice() {
+        clock_place(clocks, name)
+    } else {
+        None
+    }
+}
+
+/// The place of a clock's name.
+pub fn clock_place(clocks: &IndexMap<Text, ClockRate>, name: &Text) -> Option<u32>
+    requires { length (keys clocks.now) < 2 ^ 32 }
+    ensures { result ≡ position (is_text name.now) (keys clocks.now) }
+{
+    match clocks.get_index_of(name) {
+        Some(place) => Some(place as u32),
+        None => None,
+    }
+}

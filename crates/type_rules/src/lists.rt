@@ -1,0 +1,58 @@
+//! Lists of items.
+ghost use Rattle.std.specs.Prelude.{◌≡◌, ◌<◌, length};
+ghost use Rattle.known_types.specs.Known.{Gives};
+ghost use Rattle.type_table.specs.Table.{tree_at};
+ghost use Rattle.type_rules.specs.Typing as typing;
+ghost use Rattle.known_types.specs.View.{state};
+
+use known_types::{Around, Known, Want};
+use std::alloc::Global;
+use tsdl_parser::Dim;
+use type_table::{Fault, MetaItemCause};
+
+/// The greatest number of items of an array.
+pub const MAX_ITEMS: u64 = 1_048_576;
+
+/// Lists of lists: the last that is written is in all others, and is judged first.
+pub fn lists(
+    types: &mut Known,
+    alloc: Global,
+    around: Around,
+    dims: &[Dim],
+    place: u32,
+) -> Result<u32, Fault>
+    requires { place < length (state types.old).types }
+    ensures { Gives (typing.lists around dims.now (tree_at (state types.old).types place) (state types.old).known) result (state types.new) }
+{
+    let [outer @ .., last] = dims else {
+        return Ok(place);
+    };
+    let item = list_of(types, alloc, around, last, place)?;
+    lists(types, alloc, around, outer, item)
+}
+
+// A list of items each of which takes a bit at least.
+#[tactic(auto, unfolding(crate::specs::Typing::list_of))]
+fn list_of(
+    types: &mut Known,
+    alloc: Global,
+    around: Around,
+    dim: &Dim,
+    item: u32,
+) -> Result<u32, Fault>
+    requires { item < length (state types.old).types }
+    ensures { Gives (typing.list_of around dim.now (tree_at (state types.old).types item) (state types.old).known) result (state types.new) }
+{
+    if types.may_be_empty(item) {
+        return Err(Fault::Breaks(MetaItemCause::BadAttribute));
+    }
+    match dim {
+        Dim::Fixed(count) if *count > MAX_ITEMS => Err(Fault::Breaks(MetaItemCause::BadAttribute)),
+        Dim::Fixed(count) => types.add_array(*count, item),
+        Dim::Path(words) => {
+            let place = types.add_sequence(alloc, words.as_slice(), item)?;
+            types.refer(alloc, around, Want::Length, words.as_slice())?;
+            Ok(place)
+        }
+    }
+}

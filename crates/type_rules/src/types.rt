@@ -1,0 +1,251 @@
+//! Types, and the structures and variants that are made of them.
+ghost use Rattle.std.specs.Prelude.{◌≡◌, ◌<◌, length};
+ghost use Rattle.tsdl_parser.specs.declared.tree.StructBody.{out-StructBody};
+ghost use Rattle.tsdl_parser.specs.declared.tree.VariantTree.{out-VariantTree};
+ghost use Rattle.known_types.specs.Known.{Does, Gives, Gives_too};
+ghost use Rattle.type_table.specs.Table.{tree_at};
+ghost use Rattle.type_rules.specs.Typing as typing;
+ghost use Rattle.type_rules.specs.Typing.{AlignSaid};
+ghost use Rattle.known_types.specs.View.{state};
+
+use crate::enums::enum_type;
+use crate::lists::lists;
+use crate::typing::{alias, declare, integer_type, known_as, new_name, string_type};
+use crate::values::is_align;
+use known_types::{Around, Known, Use, Want};
+use sqlite_items::Items;
+use std::alloc::Global;
+use trace_types::Text;
+use tsdl_parser::{FieldTree, StructBody, StructTree, TypeTree, VariantTree};
+use type_table::{Fault, MetaItemCause, NameKind};
+
+/// A type that is used so. Structures and variants may stand in one another so deep.
+#[cycle(types)]
+#[tactic(auto, unfolding(crate::specs::Typing::used_as))]
+pub fn used_as(
+    types: &mut Known,
+    alloc: Global,
+    around: Around,
+    depth: u32,
+    role: Use,
+    tree: &TypeTree,
+) -> Result<u32, Fault>
+    ensures { Gives (typing.used_as (typing.fields_within depth around) around role tree.now (state types.old).known) result (state types.new) }
+{
+    let (place, is_known) = type_of(types, alloc, around, depth, tree)?;
+    if !types.may_be(role, place) {
+        return Err(Fault::Breaks(MetaItemCause::BadAttribute));
+    }
+    if is_known {
+        types.recheck(alloc, around, place)?;
+    }
+    Ok(place)
+}
+
+// A type, and whether it was declared before.
+#[cycle(types)]
+#[tactic(auto, unfolding(crate::specs::Typing::type_of))]
+fn type_of(
+    types: &mut Known,
+    alloc: Global,
+    around: Around,
+    depth: u32,
+    tree: &TypeTree,
+) -> Result<(u32, bool), Fault>
+    ensures { Gives_too (typing.type_of (typing.fields_within depth around) around tree.now (state types.old).known) result (state types.new) }
+{
+    match tree {
+        TypeTree::Integer(attrs) => {
+            let place = integer_type(types, alloc, around, attrs.as_slice())?;
+            Ok((place, false))
+        }
+        TypeTree::Float(_) => Err(Fault::Breaks(MetaItemCause::FloatType)),
+        TypeTree::Str(attrs) => {
+            let place = string_type(types, alloc, attrs)?;
+            Ok((place, false))
+        }
+        TypeTree::Struct(tree) => struct_type(types, alloc, around, depth, tree),
+        TypeTree::Variant(tree) => variant_type(types, alloc, around, depth, tree),
+        TypeTree::Enum(tree) => enum_type(types, alloc, around, tree),
+        TypeTree::Words(words) => {
+            let place = alias(types, alloc, words.as_slice())?;
+            Ok((place, true))
+        }
+    }
+}
+
+/// A structure, and whether it was declared before.
+#[cycle(types)]
+#[tactic(auto, unfolding(crate::specs::Typing::struct_type))]
+pub fn struct_type(
+    types: &mut Known,
+    alloc: Global,
+    around: Around,
+    depth: u32,
+    tree: &StructTree,
+) -> Result<(u32, bool), Fault>
+    ensures { Gives_too (typing.struct_type (typing.fields_within depth around) tree.now (state types.old).known) result (state types.new) }
+{
+    match (&tree.body, &tree.name) {
+        (Some(body), name) => {
+            let place = new_struct(types, alloc, around, depth, name, body)?;
+            Ok((place, false))
+        }
+        (None, Some(name)) => {
+            let place = known_as(types, NameKind::Struct, name)?;
+            Ok((place, true))
+        }
+        (None, None) => Err(Fault::Breaks(MetaItemCause::BadAttribute)),
+    }
+}
+
+#[cycle(types)]
+#[tactic(auto, unfolding(crate::specs::Typing::new_struct))]
+fn new_struct(
+    types: &mut Known,
+    alloc: Global,
+    around: Around,
+    depth: u32,
+    name: &Option<Text>,
+    body: &StructBody,
+) -> Result<u32, Fault>
+    ensures { Gives (typing.new_struct (typing.fields_within depth around) name.now (out-StructBody body.now).fields (out-StructBody body.now).align (state types.old).known) result (state types.new) }
+{
+    types.open(alloc, true)?;
+    fields(types, alloc, around, depth, body.fields.as_slice())?;
+    new_name(types, NameKind::Struct, name)?;
+    let align = align_said(body.align)?;
+    let place = types.end_struct(alloc, align)?;
+    declare(types, alloc, NameKind::Struct, name, place)?;
+    Ok(place)
+}
+
+fn align_said(align: Option<u64>) -> Result<u32, Fault>
+    ensures { AlignSaid align result }
+{
+    match align {
+        None => Ok(1),
+        Some(align) if is_align(align) => Ok(align as u32),
+        Some(_) => Err(Fault::Breaks(MetaItemCause::BadAttribute)),
+    }
+}
+
+/// A variant, and whether it was declared before.
+#[cycle(types)]
+#[tactic(auto, unfolding(crate::specs::Typing::variant_type))]
+pub fn variant_type(
+    types: &mut Known,
+    alloc: Global,
+    around: Around,
+    depth: u32,
+    tree: &VariantTree,
+) -> Result<(u32, bool), Fault>
+    ensures { Gives_too (typing.variant_type (typing.fields_within depth around) around tree.now (state types.old).known) result (state types.new) }
+{
+    match (&tree.body, &tree.name) {
+        (Some(body), _) => {
+            let place = new_variant(types, alloc, around, depth, tree, body.as_slice())?;
+            Ok((place, false))
+        }
+        (None, Some(name)) => {
+            let place = known_as(types, NameKind::Variant, name)?;
+            let place = retagged(types, alloc, &tree.tag, place)?;
+            Ok((place, true))
+        }
+        (None, None) => Err(Fault::Breaks(MetaItemCause::BadAttribute)),
+    }
+}
+
+#[cycle(types)]
+#[tactic(auto, unfolding(crate::specs::Typing::new_variant))]
+fn new_variant(
+    types: &mut Known,
+    alloc: Global,
+    around: Around,
+    depth: u32,
+    tree: &VariantTree,
+    body: &[FieldTree],
+) -> Result<u32, Fault>
+    ensures { Gives (typing.new_variant (typing.fields_within depth around) around (out-VariantTree tree.now).name (out-VariantTree tree.now).tag body.now (state types.old).known) result (state types.new) }
+{
+    types.open(alloc, false)?;
+    fields(types, alloc, around, depth, body)?;
+    new_name(types, NameKind::Variant, &tree.name)?;
+    let place = types.end_variant(alloc)?;
+    declare(types, alloc, NameKind::Variant, &tree.name, place)?;
+    tagged(types, alloc, around, &tree.tag, place)
+}
+
+// A variant with the tag that stands with its fields.
+fn tagged(
+    types: &mut Known,
+    alloc: Global,
+    around: Around,
+    tag: &Option<Items<Text>>,
+    place: u32,
+) -> Result<u32, Fault>
+    requires { place < length (state types.old).types }
+    ensures { Gives (typing.tagged around tag.now (tree_at (state types.old).types place) (state types.old).known) result (state types.new) }
+{
+    let Some(words) = tag else {
+        return Ok(place);
+    };
+    let place = types.add_tagged(alloc, words.as_slice(), place)?;
+    types.refer(alloc, around, Want::Tag, words.as_slice())?;
+    Ok(place)
+}
+
+// A variant that was declared before, with the tag that stands where it is used.
+fn retagged(
+    types: &mut Known,
+    alloc: Global,
+    tag: &Option<Items<Text>>,
+    place: u32,
+) -> Result<u32, Fault>
+    requires { place < length (state types.old).types }
+    ensures { Gives (typing.retagged tag.now (tree_at (state types.old).types place) (state types.old).known) result (state types.new) }
+{
+    match tag {
+        Some(words) => types.add_tagged(alloc, words.as_slice(), place),
+        None => Ok(place),
+    }
+}
+
+// The fields in the braces of a structure or a variant.
+#[cycle(types)]
+#[tactic(auto, unfolding(crate::specs::Typing::fields_within))]
+fn fields(
+    types: &mut Known,
+    alloc: Global,
+    around: Around,
+    depth: u32,
+    body: &[FieldTree],
+) -> Result<(), Fault>
+    ensures { Does (typing.fields_within depth around body.now (state types.old).known) result (state types.new) }
+{
+    if depth == 0 {
+        return Err(Fault::Breaks(MetaItemCause::BadAttribute));
+    }
+    for tree in body {
+        field(types, alloc, around, depth - 1, tree)?;
+    }
+    Ok(())
+}
+
+#[cycle(types)]
+#[tactic(auto, unfolding(crate::specs::Typing::field))]
+fn field(
+    types: &mut Known,
+    alloc: Global,
+    around: Around,
+    depth: u32,
+    tree: &FieldTree,
+) -> Result<(), Fault>
+    ensures { Does (typing.field (typing.fields_within depth around) around tree.now (state types.old).known) result (state types.new) }
+{
+    let is_struct = matches!(tree.ty, TypeTree::Struct(_)) && tree.dims.is_empty();
+    types.enter(alloc, &tree.name, is_struct)?;
+    let place = used_as(types, alloc, around, depth, Use::Field, &tree.ty)?;
+    let place = lists(types, alloc, around, tree.dims.as_slice(), place)?;
+    types.add_field(alloc, &tree.name, place)
+}

@@ -1,0 +1,100 @@
+//! The types of integers, strings, enumerations and aliases.
+ghost use Rattle.std.specs.Prelude.{◌≡◌, ◌<◌, OnOk, length, true};
+ghost use Rattle.known_types.specs.Known.{Does, Gives, declared, is_free, known_as, new_name};
+ghost use Rattle.type_table.specs.Table.{tree_at};
+ghost use Rattle.type_rules.specs.Typing as typing;
+ghost use Rattle.known_types.specs.View.{state};
+
+use crate::integer::{is_twice, read_integer};
+use known_types::{Around, Known};
+use sqlite_items::Items;
+use std::alloc::Global;
+use trace_types::Text;
+use tsdl_parser::Attr;
+use type_table::{Fault, MetaItemCause, NameKind, spaced};
+
+/// An integer.
+#[tactic(auto, unfolding(crate::specs::Typing::integer_type, crate::specs::Typing::integer))]
+pub fn integer_type(
+    types: &mut Known,
+    alloc: Global,
+    around: Around,
+    attrs: &[Attr],
+) -> Result<u32, Fault>
+    ensures { Gives (typing.integer_type around attrs.now (state types.old).known) result (state types.new) }
+{
+    let integer = read_integer(alloc, around.order, types.clocks(), attrs)?;
+    types.add_integer(integer)
+}
+
+/// A string.
+pub fn string_type(
+    types: &mut Known,
+    alloc: Global,
+    attrs: &Option<Items<Attr>>,
+) -> Result<u32, Fault>
+    ensures { Gives (typing.string_type attrs.now (state types.old).known) result (state types.new) }
+{
+    if let Some(attrs) = attrs
+        && is_twice(alloc, attrs.as_slice())?
+    {
+        return Err(Fault::Breaks(MetaItemCause::BadAttribute));
+    }
+    types.add_string()
+}
+
+/// The type of a name of this kind.
+pub fn known_as(types: &Known, kind: NameKind, name: &Text) -> Result<u32, Fault>
+    ensures { Gives (known_as kind name.now (state types.now).known) result (state types.now) }
+{
+    match types.find(kind, name) {
+        Some(place) => Ok(place),
+        None => Err(Fault::Breaks(MetaItemCause::UnknownType)),
+    }
+}
+
+/// The type of an alias.
+#[tactic(auto, unfolding(crate::specs::Typing::alias))]
+pub fn alias(types: &Known, alloc: Global, words: &[Text]) -> Result<u32, Fault>
+    ensures { Gives (typing.alias words.now (state types.now).known) result (state types.now) }
+{
+    match words {
+        [word] => known_as(types, NameKind::Alias, word),
+        _ => {
+            let name = spaced(alloc, words)?;
+            known_as(types, NameKind::Alias, &name)
+        }
+    }
+}
+
+/// Whether a name, if there is one, is free.
+pub fn new_name(types: &mut Known, kind: NameKind, name: &Option<Text>) -> Result<(), Fault>
+    ensures step { Does (new_name kind name.now (state types.old).known) result (state types.new) }
+    ensures stays { types.new ≡ types.old }
+{
+    match name {
+        Some(name) if types.find(kind, name).is_some() => {
+            Err(Fault::Breaks(MetaItemCause::DuplicateId))
+        }
+        _ => Ok(()),
+    }
+}
+
+/// Gives a type a name, if there is one, that is free.
+pub fn declare(
+    types: &mut Known,
+    alloc: Global,
+    kind: NameKind,
+    name: &Option<Text>,
+    place: u32,
+) -> Result<(), Fault>
+    requires there { place < length (state types.old).types }
+    requires free { is_free kind name.now (state types.old).known ≡ true }
+    ensures step { Does (declared kind name.now (tree_at (state types.old).types place) (state types.old).known) result (state types.new) }
+    ensures types { OnOk result ((state types.new).types ≡ (state types.old).types) }
+{
+    if let Some(name) = name {
+        types.declare(alloc, kind, name, place)?;
+    }
+    Ok(())
+}

@@ -1,0 +1,132 @@
+//! What the values of attributes say.
+ghost use Rattle.std.specs.Prelude.{◌≡◌, ◌&&◌, nat_le, ℕ, List, ◌∷◌, []};
+ghost use Rattle.std.specs.Int.{is_power_of_two};
+ghost use Rattle.type_rules.specs.Attributes.{align_said, freq_said, id_said, is_version, is_word, number_in, offset_said, order_said, same_words, sign_said, size_said, trace_order_said};
+
+use known_types::{HIGHEST, LOWEST};
+use trace_types::{ByteOrderKind, Text};
+use tsdl_parser::AttrValue;
+
+/// A size of 1 to 64 bits.
+pub fn size_said(value: &AttrValue) -> Option<u32>
+    ensures { result ≡ size_said value.now }
+{
+    Some(number_in(value, 1, 64)? as u32)
+}
+
+/// An alignment, a power of two of at most 65,536 bits.
+pub fn align_said(value: &AttrValue) -> Option<u32>
+    ensures { result ≡ align_said value.now }
+{
+    let align = number_in(value, 0, 65_536)? as u32;
+    align.is_power_of_two().then_some(align)
+}
+
+/// Whether a structure may be aligned so.
+pub fn is_align(align: u64) -> bool
+    ensures { result ≡ (is_power_of_two align && nat_le align 65536) }
+{
+    align.is_power_of_two() && align <= 65_536
+}
+
+/// Whether integers have a sign: 0, 1, or a word of either case.
+pub fn sign_said(value: &AttrValue) -> Option<bool>
+    ensures { result ≡ sign_said value.now }
+{
+    match value {
+        AttrValue::Signed(0) => Some(false),
+        AttrValue::Signed(1) => Some(true),
+        _ if is_word(value, b"true") || is_word(value, b"TRUE") => Some(true),
+        _ if is_word(value, b"false") || is_word(value, b"FALSE") => Some(false),
+        _ => None,
+    }
+}
+
+/// A byte order. The trace's own is `native`.
+pub fn order_said(trace: ByteOrderKind, value: &AttrValue) -> Option<ByteOrderKind>
+    ensures { result ≡ order_said trace value.now }
+{
+    if is_word(value, b"le") {
+        Some(ByteOrderKind::Little)
+    } else if is_word(value, b"be") || is_word(value, b"network") {
+        Some(ByteOrderKind::Big)
+    } else if is_word(value, b"native") {
+        Some(trace)
+    } else {
+        None
+    }
+}
+
+/// The byte order of a trace, which can't be its own.
+pub fn trace_order_said(value: &AttrValue) -> Option<ByteOrderKind>
+    ensures { result ≡ trace_order_said value.now }
+{
+    if is_word(value, b"le") {
+        Some(ByteOrderKind::Little)
+    } else if is_word(value, b"be") || is_word(value, b"network") {
+        Some(ByteOrderKind::Big)
+    } else {
+        None
+    }
+}
+
+/// The id of a stream or an event.
+pub fn id_said(value: &AttrValue) -> Option<u64>
+    ensures { result ≡ id_said value.now }
+{
+    number_in(value, 0, u64::MAX)
+}
+
+/// How many times a second a clock counts.
+pub fn freq_said(value: &AttrValue) -> Option<u64>
+    ensures { result ≡ freq_said value.now }
+{
+    number_in(value, 1, u64::MAX)
+}
+
+/// Where a clock begins, from -2^63 to 2^64 - 1.
+pub fn offset_said(value: &AttrValue) -> Option<i128>
+    ensures { result ≡ offset_said value.now }
+{
+    match value {
+        AttrValue::Signed(number) if LOWEST <= *number && *number <= HIGHEST => Some(*number),
+        _ => None,
+    }
+}
+
+/// The format's major version is 1.
+pub fn is_version(value: &AttrValue) -> bool
+    ensures { result ≡ is_version value.now }
+{
+    matches!(value, AttrValue::Signed(1))
+}
+
+// A number within these bounds.
+fn number_in(value: &AttrValue, low: u64, high: u64) -> Option<u64>
+    ensures { result ≡ number_in low high value.now }
+{
+    let AttrValue::Signed(number) = value else {
+        return None;
+    };
+    let number = u64::try_from(*number).ok()?;
+    (low <= number && number <= high).then_some(number)
+}
+
+fn is_word(value: &AttrValue, word: &[u8]) -> bool
+    ensures { result ≡ is_word word.now value.now }
+{
+    match value {
+        AttrValue::Path(words) => is_only(words.as_slice(), word),
+        _ => false,
+    }
+}
+
+/// Whether the path is this one word.
+pub fn is_only(words: &[Text], word: &[u8]) -> bool
+    ensures { result ≡ same_words words.now (word.now ∷ []) }
+{
+    match words {
+        [only] => only.as_bytes() == word,
+        _ => false,
+    }
+}
