@@ -4,6 +4,8 @@
 #[cfg(test)]
 mod bits;
 #[cfg(test)]
+mod leaf_fields;
+#[cfg(test)]
 mod metadata_blocks;
 #[cfg(test)]
 mod metadata_cases;

@@ -164,6 +164,20 @@ fn too_many_braces(rt: HostRuntime) -> Result<(), Fail> {
     )
 }
 
+// An integer of 12 bits in the other byte order is aligned to one bit, and may stand by itself.
+#[test]
+fn an_odd_integer(rt: HostRuntime) -> Result<(), Fail> {
+    let mut whole = Vec::new(rt.alloc());
+    whole.extend_from_slice(BEFORE)?;
+    whole.extend_from_slice(b"typealias integer { size = 12; byte_order = be; } := c;")?;
+    done(
+        &rt,
+        "check d",
+        &[(b"d", b"metadata", &whole)],
+        "host 0 streams 0 events 0 clocks 0\n",
+    )
+}
+
 #[test]
 fn hostile_items(rt: HostRuntime) -> Result<(), Fail> {
     let bad = "host 0: metadata item 3: BadAttribute\n";

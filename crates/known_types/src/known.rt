@@ -1,7 +1,7 @@
 //! What a text has declared up to a place in it, and what is being read there.
 ghost use Rattle.std.specs.Prelude.{◌≡◌, ◌<◌, ◌∷◌, [], None, Some, length, IfOk, OnOk, IfSome, IfNone};
 ghost use Rattle.known_types.specs.Known.{Gives, empty_known, sized, type_named, with_name};
-ghost use Rattle.type_table.specs.Table.{IsBased, Keeps, NamesIn, RefersIn, name_at, shape, tree_at, trees};
+ghost use Rattle.type_table.specs.Table.{IsBased, IsSound, Keeps, NamesIn, RefersIn, name_at, shape, tree_at, trees};
 ghost use Rattle.known_types.specs.View.{place_of, places_set, state, with_table};
 
 mod built;
@@ -138,6 +138,7 @@ impl Known {
         requires names { NamesIn (length self.old.table.names) meta }
         requires refers { RefersIn (length self.old.table.types) meta }
         requires based { IsBased (trees self.old.table) meta }
+        requires sound { IsSound meta }
         ensures { Gives (sized (shape self.old.table.names (trees self.old.table) meta) (state self.old).known) result (state self.new) }
     {
         self.table.push(meta)

@@ -127,9 +127,9 @@ first_fault order clocks seen (a ∷ attrs) =
     if is_seen a.path seen then Some BadAttribute
     else or_later (own_fault order clocks a) (first_fault order clocks (noted a.path seen) attrs)
 
--- at the closing brace, a size that is missing
+-- at the closing brace, a size that is missing; one that is there and no size was refused where it stands
 abbrev pub integer_fault : ByteOrderKind → List (Text × ClockRate) → List Attr → Option MetaItemCause
-integer_fault order clocks attrs = or_later (first_fault order clocks [] attrs) (unless (is_some (value_named (codes "size") attrs)) BadAttribute)
+integer_fault order clocks attrs = or_later (first_fault order clocks [] attrs) (unless (is_some (said size_said (codes "size") attrs)) BadAttribute)
 
 -- 8 where the size is a multiple of 8, else 1
 abbrev pub usual_align : ℕ → ℕ

@@ -1,5 +1,5 @@
 //! Integers and what their attributes say.
-ghost use Rattle.std.specs.Prelude.{◌≡◌, ◌<◌, ◌^◌, [], codes, false, length, position, unwrap_or, IfErr, IfNone, IfOk, IfSome, None, Some};
+ghost use Rattle.std.specs.Prelude.{◌≡◌, ◌≤◌, ◌<◌, ◌^◌, [], codes, false, length, position, unwrap_or, IfErr, IfNone, IfOk, IfSome, None, Some};
 ghost use Rattle.indexmap.specs.IndexMap.{keys};
 ghost use Rattle.tsdl_parser.specs.Symbols.{is_text};
 ghost use Rattle.type_table.specs.Faults.{OnBreak};
@@ -23,12 +23,15 @@ pub fn read_integer(
 ) -> Result<Integer, Fault>
     requires { length (keys clocks.now) < 2 ^ 32 }
     ensures sound { IfOk result (λ i. (integer_fault order clocks.now.entries attrs.now ≡ None) × (i ≡ integer_of order clocks.now.entries attrs.now)) }
+    ensures bounds { IfOk result (λ i. (1 ≤ i.size) × (i.size ≤ 64) × (1 ≤ i.align)) }
     ensures broken { OnBreak (λ cause. integer_fault order clocks.now.entries attrs.now ≡ Some cause) result }
 {
-    if let Some(cause) = integer_fault(alloc, order, clocks, attrs)? {
+    if let Some(cause) = first_fault(alloc, order, clocks, attrs)? {
         return Err(Fault::Breaks(cause));
     }
-    let size = size_in(attrs);
+    let Some(size) = size_in(attrs) else {
+        return Err(Fault::Breaks(MetaItemCause::BadAttribute));
+    };
     Ok(Integer {
         size,
         align: align_in(attrs, size),
@@ -38,17 +41,16 @@ pub fn read_integer(
     })
 }
 
-fn size_in(attrs: &[Attr]) -> u32
-    ensures { result ≡ unwrap_or (said size_said (codes "size") attrs.now) 0 }
+fn size_in(attrs: &[Attr]) -> Option<u32>
+    ensures said { result ≡ said size_said (codes "size") attrs.now }
+    ensures sized { IfSome result (λ size. (1 ≤ size) × (size ≤ 64)) }
 {
-    match value_named(attrs, b"size") {
-        Some(value) => size_said(value).unwrap_or(0),
-        None => 0,
-    }
+    size_said(value_named(attrs, b"size")?)
 }
 
 fn align_in(attrs: &[Attr], size: u32) -> u32
-    ensures { result ≡ unwrap_or (said align_said (codes "align") attrs.now) (usual_align size) }
+    ensures positive { 1 ≤ result }
+    ensures said { result ≡ unwrap_or (said align_said (codes "align") attrs.now) (usual_align size) }
 {
     let usual = if size % 8 == 0 { 8 } else { 1 };
     match value_named(attrs, b"align") {
@@ -82,25 +84,6 @@ fn clock_in(clocks: &IndexMap<Text, ClockRate>, attrs: &[Attr]) -> Option<u32>
     match value_named(attrs, b"map") {
         Some(value) => clock_said(clocks, value),
         None => None,
-    }
-}
-
-// The first attribute that stands twice or breaks its rule; at the closing brace, a size that is missing.
-fn integer_fault(
-    alloc: Global,
-    order: ByteOrderKind,
-    clocks: &IndexMap<Text, ClockRate>,
-    attrs: &[Attr],
-) -> Result<Option<MetaItemCause>, OutOfMemory>
-    requires { length (keys clocks.now) < 2 ^ 32 }
-    ensures { IfOk result (λ found. found ≡ integer_fault order clocks.now.entries attrs.now) }
-{
-    match first_fault(alloc, order, clocks, attrs)? {
-        Some(cause) => Ok(Some(cause)),
-        None => Ok(unless(
-            value_named(attrs, b"size").is_some(),
-            MetaItemCause::BadAttribute,
-        )),
     }
 }
 

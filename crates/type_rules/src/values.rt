@@ -1,5 +1,5 @@
 //! What the values of attributes say.
-ghost use Rattle.std.specs.Prelude.{◌≡◌, ◌&&◌, nat_le, ℕ, List, ◌∷◌, []};
+ghost use Rattle.std.specs.Prelude.{◌≡◌, ◌≤◌, ◌&&◌, nat_le, ℕ, List, ◌∷◌, [], IfSome};
 ghost use Rattle.std.specs.Int.{is_power_of_two};
 ghost use Rattle.type_rules.specs.Attributes.{align_said, freq_said, id_said, is_version, is_word, number_in, offset_said, order_said, same_words, sign_said, size_said, trace_order_said};
 
@@ -9,14 +9,17 @@ use tsdl_parser::AttrValue;
 
 /// A size of 1 to 64 bits.
 pub fn size_said(value: &AttrValue) -> Option<u32>
-    ensures { result ≡ size_said value.now }
+    ensures said { result ≡ size_said value.now }
+    ensures sized { IfSome result (λ size. (1 ≤ size) × (size ≤ 64)) }
 {
     Some(number_in(value, 1, 64)? as u32)
 }
 
 /// An alignment, a power of two of at most 65,536 bits.
+#[tactic(auto, using(crate::proofs::Powers::power_positive))]
 pub fn align_said(value: &AttrValue) -> Option<u32>
-    ensures { result ≡ align_said value.now }
+    ensures said { result ≡ align_said value.now }
+    ensures positive { IfSome result (λ align. 1 ≤ align) }
 {
     let align = number_in(value, 0, 65_536)? as u32;
     align.is_power_of_two().then_some(align)
@@ -103,7 +106,8 @@ pub fn is_version(value: &AttrValue) -> bool
 
 // A number within these bounds.
 fn number_in(value: &AttrValue, low: u64, high: u64) -> Option<u64>
-    ensures { result ≡ number_in low high value.now }
+    ensures said { result ≡ number_in low high value.now }
+    ensures within { IfSome result (λ n. (low ≤ n) × (n ≤ high)) }
 {
     let AttrValue::Signed(number) = value else {
         return None;

@@ -8,7 +8,7 @@ use Rattle.type_table.specs.declared.facts.Facts.{Facts}
 use Rattle.type_table.specs.declared.meta.FieldMeta.{FieldMeta}
 use Rattle.type_table.specs.Types.{Text, Ty, Fields, Field, No, Str, MAX_DEPTH, MAX_PARTS, depth, parts, Named, Struct, Variant, Array, Sequence, fits, widest, parts_of_all}
 use Rattle.type_table.specs.Facts.{facts_of, facts_at, meta_facts, are_fit, AreFit, no_sum, sum_of}
-use Rattle.type_table.specs.Table.{Table, Grows, Keeps, AreRanked, IsTable, trees, trees_from, tree, tree_at, grown, shape, FieldsIn, fields_at, integer_in, labels_at, name_at, way_of, way_or_here, NamesIn, RefersIn, IsBased}
+use Rattle.type_table.specs.Table.{Table, Grows, Keeps, AreRanked, IsTable, trees, trees_from, tree, tree_at, grown, shape, FieldsIn, fields_at, integer_in, labels_at, name_at, way_of, way_or_here, NamesIn, RefersIn, IsBased, IsSound, AreSound}
 use Rattle.type_table.proofs.Trees.{trees_len, trees_push, trees_more, ranked_push}
 use Rattle.type_table.proofs.Factual.{IsSum, factual, facts_known, is_sum}
 
@@ -39,10 +39,20 @@ fit_push : (facts : List Facts) (f : Facts) → AreFit facts → are_fit f ≡ t
 fit_push [] f h e = (e, tt)
 fit_push (g ∷ facts) f h e = (h.0, fit_push facts f h.1 e)
 
-pub keeps_type : (names : List Text) (types : List TypeMeta) (facts : List Facts) (t : TypeMeta) (f : Facts) → IsTable (of names types) facts → NamesIn (length names) t → RefersIn (length types) t → IsBased (trees (of names types)) t
+sound_push : (types : List TypeMeta) (t : TypeMeta) → AreSound types → IsSound t → AreSound (types ++ t ∷ [])
+sound_push [] t h is = (is, tt)
+sound_push (u ∷ types) t h is = (h.0, sound_push types t h.1 is)
+
+pub sound_at : (types : List TypeMeta) (i : ℕ) (t : TypeMeta) → AreSound types → slice_get types i ≡ Some t → IsSound t
+sound_at [] i t h e = absurd (cc)
+sound_at (u ∷ types) zero t h e = let same : u ≡ t = cc in subst IsSound same h.0
+sound_at (u ∷ types) (suc i) t h e = sound_at types i t h.1 e
+
+pub keeps_type : (names : List Text) (types : List TypeMeta) (facts : List Facts) (t : TypeMeta) (f : Facts) → IsTable (of names types) facts → NamesIn (length names) t → RefersIn (length types) t → IsBased (trees (of names types)) t → IsSound t
     → f ≡ meta_facts facts t → are_fit f ≡ true → IsTable (of names (types ++ t ∷ [])) (facts ++ f ∷ [])
-keeps_type names types facts t f table in_names refers based is fit = record {
+keeps_type names types facts t f table in_names refers based sound is fit = record {
   ranked = ranked_push (length names) 0 types t table.ranked in_names (subst (λ n. RefersIn n t) (omega arith) refers);
+  sound = sound_push types t table.sound sound;
   known = along (λ fs. fs ++ f ∷ []) _ _ table.known
       ∙ along (λ g. map facts_of (trees (of names types)) ++ g ∷ []) _ _ (is ∙ next_facts names types facts t table refers based)
       ∙ sym (map-append facts_of (trees (of names types)) (shape names (trees (of names types)) t ∷ []))

@@ -49,6 +49,7 @@ keeps_by true names types facts name t = t
 keeps_by false names types facts name t = record {
   ranked = ranked_more (length names) (length (names ++ name ∷ [])) 0 types (omega (arith, length-append names (name ∷ []))) t.ranked;
   known = t.known ∙ along (λ ts. map facts_of ts) _ _ (sym (trees_more names (name ∷ []) 0 [] types t.ranked));
+  sound = t.sound;
   fit = t.fit;
 }
 

@@ -125,6 +125,16 @@ abbrev pub AreRanked : ℕ → ℕ → List TypeMeta → Type 0
 AreRanked names k [] = Unit {0}
 AreRanked names k (t ∷ ts) = NamesIn names t × RefersIn k t × AreRanked names (k + 1) ts
 
+-- an integer has 1 to 64 bits, and an alignment is at least 1
+abbrev pub IsSound : TypeMeta → Type 0
+IsSound (meta.Integer size align signed order map) = (1 ≤ size) × (size ≤ 64) × (1 ≤ align)
+IsSound (meta.Struct align fields) = 1 ≤ align
+IsSound _ = Unit {0}
+
+abbrev pub AreSound : List TypeMeta → Type 0
+AreSound [] = Unit {0}
+AreSound (t ∷ ts) = IsSound t × AreSound ts
+
 -- more names and types behind those that were there
 pub record Grows (old new : Table) : Type 0 where
   pub more_names : List Text
@@ -142,5 +152,6 @@ pub record Keeps (old new : Table) : Type 0 where
 -- a table that stands for trees
 pub record IsTable (table : Table) (facts : List Facts) : Type 0 where
   pub ranked : AreRanked (length table.names) 0 table.types
+  pub sound : AreSound table.types
   pub known : facts ≡ map facts_of (trees table)
   pub fit : AreFit facts

@@ -2,7 +2,7 @@
 ghost use Rattle.std.specs.Prelude.{◌≡◌, ◌<◌, ◌↔◌, ◌≤◌, [], IsTrue, length, true, false, IfNone, IfOk, IfSome, OnOk};
 ghost use Rattle.type_table.specs.Facts.{facts_of};
 ghost use Rattle.type_table.specs.Faults.{OnBreak};
-ghost use Rattle.type_table.specs.Table.{FieldsIn, IsBased, Keeps, NamesIn, RefersIn, fields_at, name_at, shape, tree, trees};
+ghost use Rattle.type_table.specs.Table.{FieldsIn, IsBased, IsSound, Keeps, NamesIn, RefersIn, fields_at, name_at, shape, tree, trees};
 ghost use Rattle.type_table.specs.Types.{MAX_DEPTH, MAX_PARTS, depth, fits, parts, parts_of_all, widest};
 ghost use Rattle.type_table.specs.declared.cause.MetaItemCause.TheVariants as causes;
 
@@ -79,6 +79,7 @@ impl Table {
         requires names { NamesIn (length self.old.names) meta }
         requires refers { RefersIn (length self.old.types) meta }
         requires based { IsBased (trees self.old) meta }
+        requires sound { IsSound meta }
         ensures keeps { Keeps self.old self.new }
         ensures names_stay { OnOk result (self.new.names ≡ self.old.names) }
         ensures place { IfOk result (λ p. (p < length self.new.types) × (tree self.new p ≡ shape self.old.names (trees self.old) meta)) }
@@ -103,6 +104,7 @@ impl Table {
     pub fn widest(&self, fields: &[FieldMeta]) -> Option<u32>
         requires { FieldsIn (length self.now.types) fields.now }
         ensures found { IfSome result (λ align. align ≡ widest (fields_at self.now.names (trees self.now) fields.now)) }
+        ensures positive { IfSome result (λ align. 1 ≤ align) }
         ensures none { IfNone result (MAX_PARTS < parts_of_all (fields_at self.now.names (trees self.now) fields.now)) }
     {
         Some(sum_of(self.facts.as_slice(), fields)?.align)
@@ -115,6 +117,7 @@ impl Table {
         ensures refers { RefersIn (length self.now.types) result.now }
         ensures ranked { RefersIn place result.now }
         ensures names { NamesIn (length self.now.names) result.now }
+        ensures sound { IsSound result.now }
     {
         &self.types.as_slice()[place as usize]
     }

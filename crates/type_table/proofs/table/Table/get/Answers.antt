@@ -1,6 +1,6 @@
 use Rattle.std.proofs.Common.{◌≡◌, Some, slice_get, refl, rules, sym}
 use Rattle.std.proofs.lemmas.Option.{slice_get_read}
-use Rattle.type_table.proofs.Tables.{place_names, place_ranked, place_refers, tree_is}
+use Rattle.type_table.proofs.Tables.{place_names, place_ranked, place_refers, sound_at, tree_is}
 use Rattle.type_table.proofs.table.Table.get.Goals as goal
 
 pub returns-clause-kind : goal.returns-clause-kind
@@ -22,3 +22,8 @@ pub returns-clause-ranked : goal.returns-clause-ranked
 returns-clause-ranked c =
     let at : slice_get c.self.inside.types c.args.place ≡ Some c.index-as_slice-place.result = slice_get_read c.self.inside.types _ c.args.place _ refl (search rules) (search rules) in
     place_ranked c.self.inside.names.keys c.self.inside.types c.args.place c.index-as_slice-place.result c.self.invariant.ranked at
+
+pub returns-clause-sound : goal.returns-clause-sound
+returns-clause-sound c =
+    let at : slice_get c.self.inside.types c.args.place ≡ Some c.index-as_slice-place.result = slice_get_read c.self.inside.types _ c.args.place _ refl (search rules) (search rules) in
+    sound_at c.self.inside.types c.args.place c.index-as_slice-place.result c.self.invariant.sound at

@@ -14,7 +14,7 @@ returns-in_default-clause-breaks c =
 
 pub invariant_of-self-else-is_err : goal.invariant_of-self-else-is_err
 invariant_of-self-else-is_err c =
-    let keeps = keeps_type c.self.inside.names.keys c.self.inside.types c.self.inside.facts c.args.meta c.in-Some.facts c.self.invariant (search rules) (search rules) (search rules) (search rules) (search rules) in
+    let keeps = keeps_type c.self.inside.names.keys c.self.inside.types c.self.inside.facts c.args.meta c.in-Some.facts c.self.invariant (search rules) (search rules) (search rules) (search rules) (search rules) (search rules) in
     search rules
 
 pub returns-clause-keeps : goal.returns-clause-keeps

@@ -1,6 +1,8 @@
 use Rattle.std.proofs.Common.{rules, arith}
 use Rattle.std.proofs.lemmas.Grind.{common_steps}
+use Rattle.type_table.specs.Table.{fields_at, trees}
 use Rattle.type_table.proofs.Tables.{fields_known, parts_sum, widest_sum}
+use Rattle.type_table.proofs.Trees.{widest_positive}
 use Rattle.type_table.proofs.table.Table.widest.Goals as goal
 
 pub sum_of-requires : goal.sum_of-requires
@@ -16,4 +18,10 @@ returns-in_err-sum_of-clause-none c =
 pub returns-clause-found : goal.returns-clause-found
 returns-clause-found c =
     let widest = widest_sum c.self.inside.names.keys c.self.inside.types c.self.inside.facts c.args.fields.now c.self.invariant (search rules) in
+    search rules
+
+pub returns-clause-positive : goal.returns-clause-positive
+returns-clause-positive c =
+    let widest = widest_sum c.self.inside.names.keys c.self.inside.types c.self.inside.facts c.args.fields.now c.self.invariant (search rules) in
+    let positive = widest_positive (fields_at c.self.inside.names.keys (trees (record { names = c.self.inside.names.keys; types = c.self.inside.types })) c.args.fields.now) in
     search rules
