@@ -1,1 +1,5 @@
+pub mod Integers
+pub mod Nearest
+pub mod Places
+pub mod Steps
 pub mod Zeros

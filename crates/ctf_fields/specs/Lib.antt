@@ -1,1 +1,5 @@
+pub mod Choice
+pub mod Fields
 pub mod Leaves
+pub mod Named
+pub mod Reading

@@ -1,5 +1,6 @@
 //! Integers and strings.
 ghost use Rattle.std.specs.Prelude.{◌≡◌, ◌≤◌, ◌<◌, ◌^◌, length, None, Some, IfOk, IfSome, IfNone};
+ghost use Rattle.std.specs.Int.{next_multiple_of};
 ghost use Rattle.ctf_fields.specs.Leaves.{IsReadable, IsSpan, bytes_from, integer_read, text_in, text_read, value_of};
 
 use crate::span::BitSpan;
@@ -10,19 +11,34 @@ use type_table::Integer;
 
 /// The integer at the first place from `at` that it is aligned to, and the place behind it. `None` comes exactly
 /// where a bit of it lies past the end. It takes no memory.
+#[inline(always)]
 pub fn read_integer(bits: BitSpan<'_>, at: u64, integer: Integer) -> Option<(i128, u64)>
     requires span { IsSpan bits.bytes.now bits.end }
     requires at { at ≤ 2 ^ 63 }
     requires integer { IsReadable integer }
     ensures { result ≡ integer_read integer bits.entry.bytes.now bits.entry.end at }
 {
-    let place = at.next_multiple_of(u64::from(integer.align));
+    let place = next_place(at, integer.align);
     let end = place + u64::from(integer.size);
     if end > bits.end {
         return None;
     }
     let number = read_bits(bits.bytes, place, integer.size, integer.order)?;
     Some((value_of(integer, number), end))
+}
+
+/// The first place from here that is aligned so. Most fields are aligned to bytes, or to nothing.
+#[inline(always)]
+pub fn next_place(at: u64, align: u32) -> u64
+    requires at { at ≤ 2 ^ 63 }
+    requires align { 1 ≤ align }
+    ensures { result ≡ next_multiple_of at align }
+{
+    match align {
+        1 => at,
+        8 => at.next_multiple_of(8),
+        _ => at.next_multiple_of(u64::from(align)),
+    }
 }
 
 // The value of an integer's bits.
@@ -47,7 +63,8 @@ pub fn read_text(
 ) -> Result<Option<(Text, u64)>, OutOfMemory>
     requires span { IsSpan bits.bytes.now bits.end }
     requires at { at ≤ 2 ^ 63 }
-    ensures { IfOk result (λ found. found ≡ text_read bits.entry.bytes.now bits.entry.end at) }
+    ensures read { IfOk result (λ found. found ≡ text_read bits.entry.bytes.now bits.entry.end at) }
+    ensures within { IfOk result (λ found. IfSome found (λ r. (at ≤ r.1) × (r.1 ≤ bits.entry.end))) }
 {
     let place = at.next_multiple_of(8);
     let Some(text) = text_in(bytes_from(bits, place)) else {

@@ -21,3 +21,11 @@ mod metadata_types;
 mod printed_tokens;
 #[cfg(test)]
 mod printed_trees;
+#[cfg(test)]
+mod stream_cases;
+#[cfg(test)]
+mod stream_fields;
+#[cfg(test)]
+mod stream_packets;
+#[cfg(test)]
+mod stream_times;

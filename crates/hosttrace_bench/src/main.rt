@@ -1,10 +1,12 @@
 //! Times single calls on files that it is given, and counts what they give.
 //!
 //! `count FILE..` prints what each metadata file declares. `time FILE..` prints the fewest
-//! nanoseconds that five runs of each step took on each file.
+//! nanoseconds that five runs of each step took on each file. `events METADATA FILE..` prints what the
+//! stream files of a trace hold, and `decode METADATA FILE..` how long cutting and decoding them takes.
 #![tactic(auto)]
 
 mod counts;
+mod streams;
 mod times;
 
 use std::process::ExitCode;
@@ -18,18 +20,36 @@ fn main(rt: HostRuntime) -> anyhow::Result<ExitCode> {
     let Some((command, files)) = words.split_first() else {
         return usage(&rt);
     };
+    match command.as_str() {
+        "count" | "time" => each_metadata(&rt, command.as_str(), files),
+        _ => each_trace(&rt, command.as_str(), files),
+    }
+}
+
+fn each_metadata(rt: &HostRuntime, command: &str, files: &[String]) -> anyhow::Result<ExitCode> {
     for file in files {
-        let bytes = fs::read(&rt, file.as_str())?;
-        match command.as_str() {
-            "count" => counts::print_counts(&rt, &bytes)?,
-            "time" => times::print_times(&rt, &bytes)?,
-            _ => return usage(&rt),
+        let bytes = fs::read(rt, file.as_str())?;
+        match command {
+            "count" => counts::print_counts(rt, &bytes)?,
+            _ => times::print_times(rt, &bytes)?,
         }
     }
     Ok(ExitCode::SUCCESS)
 }
 
+fn each_trace(rt: &HostRuntime, command: &str, files: &[String]) -> anyhow::Result<ExitCode> {
+    let Some((metadata, files)) = files.split_first() else {
+        return usage(rt);
+    };
+    match command {
+        "events" => streams::print_events(rt, metadata.as_str(), files)?,
+        "decode" => streams::print_decode_time(rt, metadata.as_str(), files)?,
+        _ => return usage(rt),
+    }
+    Ok(ExitCode::SUCCESS)
+}
+
 fn usage(rt: &HostRuntime) -> anyhow::Result<ExitCode> {
-    eprintln!(rt; "usage: hosttrace_bench count|time FILE..")?;
+    eprintln!(rt; "usage: hosttrace_bench count|time FILE.. | events|decode METADATA FILE..")?;
     Ok(ExitCode::FAILURE)
 }

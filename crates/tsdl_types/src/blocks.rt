@@ -1,11 +1,12 @@
 //! The blocks of a text and what they tell.
-ghost use Rattle.std.specs.Prelude.{◌≡◌, codes, pos, unwrap_or, IfOk};
+ghost use Rattle.std.specs.Prelude.{◌≡◌, ◌≤◌, codes, pos, unwrap_or, IfOk};
 ghost use Rattle.type_rules.specs.Attributes.{freq_said, offset_said, said};
 ghost use Rattle.tsdl_types.specs.Blocks as blocks;
 ghost use Rattle.tsdl_types.specs.Blocks.{Needs};
 ghost use Rattle.tsdl_types.specs.Uuids.{uuid_said};
 ghost use Rattle.known_types.specs.Known.{Does};
 ghost use Rattle.known_types.specs.View.{state};
+ghost use Rattle.type_table.specs.ToldKept.{IsOffset, IsRate};
 
 use crate::entries::{name_said, value_in};
 use crate::uuids::uuid_said;
@@ -268,7 +269,8 @@ fn name_in(alloc: Global, all: &[Entry]) -> Result<Text, OutOfMemory>
 }
 
 fn rate_in(all: &[Entry]) -> ClockRate
-    ensures { result ≡ blocks.rate_in all.now }
+    ensures said { result ≡ blocks.rate_in all.now }
+    ensures rate { IsRate result }
 {
     ClockRate {
         freq: freq_in(all),
@@ -278,7 +280,8 @@ fn rate_in(all: &[Entry]) -> ClockRate
 }
 
 fn freq_in(all: &[Entry]) -> u64
-    ensures { result ≡ unwrap_or (said freq_said (codes "freq") (blocks.attrs_in all.now)) 1000000000 }
+    ensures said { result ≡ unwrap_or (said freq_said (codes "freq") (blocks.attrs_in all.now)) 1000000000 }
+    ensures counts { 1 ≤ result }
 {
     match value_in(all, b"freq") {
         Some(value) => freq_said(value).unwrap_or(1_000_000_000),
@@ -287,7 +290,8 @@ fn freq_in(all: &[Entry]) -> u64
 }
 
 fn offset_in(name: &[u8], all: &[Entry]) -> i128
-    ensures { result ≡ unwrap_or (said offset_said name.now (blocks.attrs_in all.now)) (pos 0) }
+    ensures said { result ≡ unwrap_or (said offset_said name.now (blocks.attrs_in all.now)) (pos 0) }
+    ensures within { IsOffset result }
 {
     match value_in(all, name) {
         Some(value) => offset_said(value).unwrap_or(0),

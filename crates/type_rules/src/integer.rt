@@ -1,5 +1,5 @@
 //! Integers and what their attributes say.
-ghost use Rattle.std.specs.Prelude.{◌≡◌, ◌≤◌, ◌<◌, ◌^◌, [], codes, false, length, position, unwrap_or, IfErr, IfNone, IfOk, IfSome, None, Some};
+ghost use Rattle.std.specs.Prelude.{◌≡◌, ◌≤◌, ◌<◌, ◌%◌, ◌^◌, [], codes, false, length, position, unwrap_or, IfErr, IfNone, IfOk, IfSome, None, Some};
 ghost use Rattle.indexmap.specs.IndexMap.{keys};
 ghost use Rattle.tsdl_parser.specs.Symbols.{is_text};
 ghost use Rattle.type_table.specs.Faults.{OnBreak};
@@ -23,7 +23,7 @@ pub fn read_integer(
 ) -> Result<Integer, Fault>
     requires { length (keys clocks.now) < 2 ^ 32 }
     ensures sound { IfOk result (λ i. (integer_fault order clocks.now.entries attrs.now ≡ None) × (i ≡ integer_of order clocks.now.entries attrs.now)) }
-    ensures bounds { IfOk result (λ i. (1 ≤ i.size) × (i.size ≤ 64) × (1 ≤ i.align)) }
+    ensures bounds { IfOk result (λ i. (1 ≤ i.size) × (i.size ≤ 64) × (1 ≤ i.align) × (65536 % i.align ≡ 0)) }
     ensures broken { OnBreak (λ cause. integer_fault order clocks.now.entries attrs.now ≡ Some cause) result }
 {
     if let Some(cause) = first_fault(alloc, order, clocks, attrs)? {
@@ -49,7 +49,7 @@ fn size_in(attrs: &[Attr]) -> Option<u32>
 }
 
 fn align_in(attrs: &[Attr], size: u32) -> u32
-    ensures positive { 1 ≤ result }
+    ensures aligns { (1 ≤ result) × (65536 % result ≡ 0) }
     ensures said { result ≡ unwrap_or (said align_said (codes "align") attrs.now) (usual_align size) }
 {
     let usual = if size % 8 == 0 { 8 } else { 1 };

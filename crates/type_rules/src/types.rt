@@ -1,5 +1,5 @@
 //! Types, and the structures and variants that are made of them.
-ghost use Rattle.std.specs.Prelude.{◌≡◌, ◌<◌, length};
+ghost use Rattle.std.specs.Prelude.{◌≡◌, ◌<◌, ◌≤◌, ◌%◌, IfOk, length};
 ghost use Rattle.tsdl_parser.specs.declared.tree.StructBody.{out-StructBody};
 ghost use Rattle.tsdl_parser.specs.declared.tree.VariantTree.{out-VariantTree};
 ghost use Rattle.known_types.specs.Known.{Does, Gives, Gives_too};
@@ -121,7 +121,8 @@ fn new_struct(
 }
 
 fn align_said(align: Option<u64>) -> Result<u32, Fault>
-    ensures { AlignSaid align result }
+    ensures said { AlignSaid align result }
+    ensures aligns { IfOk result (λ align. (1 ≤ align) × (65536 % align ≡ 0)) }
 {
     match align {
         None => Ok(1),

@@ -1,7 +1,8 @@
 //! What the values of attributes say.
-ghost use Rattle.std.specs.Prelude.{◌≡◌, ◌≤◌, ◌&&◌, nat_le, ℕ, List, ◌∷◌, [], IfSome};
+ghost use Rattle.std.specs.Prelude.{◌≡◌, ◌≤◌, ◌%◌, ◌&&◌, true, nat_le, ℕ, List, ◌∷◌, [], IfSome};
 ghost use Rattle.std.specs.Int.{is_power_of_two};
 ghost use Rattle.type_rules.specs.Attributes.{align_said, freq_said, id_said, is_version, is_word, number_in, offset_said, order_said, same_words, sign_said, size_said, trace_order_said};
+ghost use Rattle.type_table.specs.ToldKept.{IsOffset};
 
 use known_types::{HIGHEST, LOWEST};
 use trace_types::{ByteOrderKind, Text};
@@ -16,10 +17,10 @@ pub fn size_said(value: &AttrValue) -> Option<u32>
 }
 
 /// An alignment, a power of two of at most 65,536 bits.
-#[tactic(auto, using(crate::proofs::Powers::power_positive))]
+#[tactic(auto, using(crate::proofs::Powers::power_aligns))]
 pub fn align_said(value: &AttrValue) -> Option<u32>
     ensures said { result ≡ align_said value.now }
-    ensures positive { IfSome result (λ align. 1 ≤ align) }
+    ensures aligns { IfSome result (λ align. (1 ≤ align) × (65536 % align ≡ 0)) }
 {
     let align = number_in(value, 0, 65_536)? as u32;
     align.is_power_of_two().then_some(align)
@@ -27,7 +28,8 @@ pub fn align_said(value: &AttrValue) -> Option<u32>
 
 /// Whether a structure may be aligned so.
 pub fn is_align(align: u64) -> bool
-    ensures { result ≡ (is_power_of_two align && nat_le align 65536) }
+    ensures is { result ≡ (is_power_of_two align && nat_le align 65536) }
+    ensures aligns { result ≡ true → (1 ≤ align) × (65536 % align ≡ 0) }
 {
     align.is_power_of_two() && align <= 65_536
 }
@@ -82,14 +84,16 @@ pub fn id_said(value: &AttrValue) -> Option<u64>
 
 /// How many times a second a clock counts.
 pub fn freq_said(value: &AttrValue) -> Option<u64>
-    ensures { result ≡ freq_said value.now }
+    ensures said { result ≡ freq_said value.now }
+    ensures counts { IfSome result (λ freq. 1 ≤ freq) }
 {
     number_in(value, 1, u64::MAX)
 }
 
 /// Where a clock begins, from -2^63 to 2^64 - 1.
 pub fn offset_said(value: &AttrValue) -> Option<i128>
-    ensures { result ≡ offset_said value.now }
+    ensures said { result ≡ offset_said value.now }
+    ensures within { IfSome result IsOffset }
 {
     match value {
         AttrValue::Signed(number) if LOWEST <= *number && *number <= HIGHEST => Some(*number),

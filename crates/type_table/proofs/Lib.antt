@@ -1,5 +1,7 @@
+pub mod Aligned
 pub mod Factual
 pub mod Keeping
+pub mod Rates
 pub mod Sums
 pub mod Tables
 pub mod Texts

@@ -1,13 +1,12 @@
 -- The trees of a table's types, as it grows.
 use Rattle.std.proofs.Common.{◌≡◌, ℕ, ◌+◌, ◌<◌, ◌≤◌, List, [], ◌∷◌, ◌++◌, length, map, refl, ap, ◌∙◌, arith, subst}
 use Rattle.std.proofs.lemmas.List.{get_or_append_left, length-append}
-use Rattle.std.proofs.Math.Nat.{le-max_right}
 use Rattle.type_table.specs.declared.meta.TypeMeta.{TypeMeta}
 use Rattle.type_table.specs.declared.meta.TypeMeta.TheVariants as meta
 use Rattle.type_table.specs.declared.meta.FieldMeta.{FieldMeta}
 use Rattle.type_table.specs.declared.meta.LabelMeta.{LabelMeta}
 use Rattle.type_table.specs.declared.meta.Reference.{Reference}
-use Rattle.type_table.specs.Types.{Text, Ty, Fields, Field, No, Struct, Variant, Named, Sequence, alignment, widest}
+use Rattle.type_table.specs.Types.{Text, Ty, Field, Struct, Variant, Named, Sequence}
 use Rattle.type_table.specs.Table.{name_at, tree_at, way_by, way_of, way_or_here, fields_at, labels_at, integer_in, shape, grown, trees_from, AreBelow, RefersIn, FieldNamesIn, LabelNamesIn, NamesIn, AreRanked}
 
 along : {A B : Type 0} (f : A → B) (x y : A) → x ≡ y → f x ≡ f y
@@ -86,8 +85,3 @@ names_more n m (meta.Sequence count item) le h = below_more n m count.words le h
 pub ranked_more : (n m k : ℕ) (ts : List TypeMeta) → n ≤ m → AreRanked n k ts → AreRanked m k ts
 ranked_more n m k [] le r = tt
 ranked_more n m k (t ∷ ts) le r = (names_more n m t le r.0, r.1, ranked_more n m (k + 1) ts le r.2)
-
--- a structure is aligned to one bit at least
-pub widest_positive : (fs : Fields) → 1 ≤ widest fs
-widest_positive No = omega arith
-widest_positive (Field name ty fs) = omega (arith, widest_positive fs, le-max_right (alignment ty) (widest fs))

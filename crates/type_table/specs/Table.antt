@@ -1,5 +1,5 @@
 -- The types of a text as a list in which each names others by smaller places, and the trees that they stand for.
-use Rattle.std.specs.Prelude.{◌≡◌, ℕ, ◌<◌, ◌≤◌, ◌+◌, ◌++◌, List, [], ◌∷◌, Option, Some, None, get_or, unwrap_or, length, map, false}
+use Rattle.std.specs.Prelude.{◌≡◌, ℕ, ◌<◌, ◌≤◌, ◌+◌, ◌%◌, ◌++◌, List, [], ◌∷◌, Option, Some, None, get_or, unwrap_or, length, map, false}
 use Rattle.trace_types.specs.declared.byte_order.ByteOrderKind.TheVariants.{Little}
 use Rattle.type_table.specs.declared.meta.TypeMeta.{TypeMeta}
 use Rattle.type_table.specs.declared.meta.TypeMeta.TheVariants as meta
@@ -125,10 +125,10 @@ abbrev pub AreRanked : ℕ → ℕ → List TypeMeta → Type 0
 AreRanked names k [] = Unit {0}
 AreRanked names k (t ∷ ts) = NamesIn names t × RefersIn k t × AreRanked names (k + 1) ts
 
--- an integer has 1 to 64 bits, and an alignment is at least 1
+-- an integer has 1 to 64 bits, and an alignment is one of the powers of two up to 65,536, which are the numbers that divide that
 abbrev pub IsSound : TypeMeta → Type 0
-IsSound (meta.Integer size align signed order map) = (1 ≤ size) × (size ≤ 64) × (1 ≤ align)
-IsSound (meta.Struct align fields) = 1 ≤ align
+IsSound (meta.Integer size align signed order map) = (1 ≤ size) × (size ≤ 64) × (1 ≤ align) × (65536 % align ≡ 0)
+IsSound (meta.Struct align fields) = (1 ≤ align) × (65536 % align ≡ 0)
 IsSound _ = Unit {0}
 
 abbrev pub AreSound : List TypeMeta → Type 0

@@ -1,5 +1,5 @@
 -- What blocks told, with types as places.
-use Rattle.std.specs.Prelude.{ℕ, ◌<◌, ◌^◌, Bool, false, true, if◌then◌else◌, List, [], ◌∷◌, ◌++◌, length, Option, None, Some}
+use Rattle.std.specs.Prelude.{ℕ, ℤ, pos, neg_ℤ, ◌≤ℤ◌, ◌≤◌, ◌<◌, ◌^◌, Bool, false, true, if◌then◌else◌, List, [], ◌∷◌, ◌++◌, length, Option, None, Some}
 use Rattle.std.specs.List.{list_any}
 use Rattle.tsdl_parser.specs.Symbols.{is_text}
 use Rattle.type_table.specs.declared.told.ClockRate.{ClockRate}
@@ -25,9 +25,21 @@ pub record ToldKept : Type 0 where
 abbrev pub same_event : EventId → EventId → Bool
 same_event = event_id.ghosts.eq
 
+-- an offset lies from -2^63 to 2^64 - 1
+pub record IsOffset (z : ℤ) : Type 0 where
+  pub least : neg_ℤ (pos 9223372036854775808) ≤ℤ z
+  pub greatest : z ≤ℤ pos 18446744073709551615
+
+-- a clock counts at least once a second
+pub record IsRate (rate : ClockRate) : Type 0 where
+  pub counts : 1 ≤ rate.freq
+  pub offset : IsOffset rate.offset
+  pub offset_s : IsOffset rate.offset_s
+
 pub record AreFew (told : ToldKept) : Type 0 where
   pub names : length told.event_names < 2 ^ 32
   pub clocks : length told.clocks < 2 ^ 32
+  pub rates : AllByRecursion (λ clock. IsRate clock.1) told.clocks
   pub events : length told.events < 2 ^ 32
 
 abbrev pub nothing_kept : ToldKept

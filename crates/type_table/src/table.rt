@@ -1,5 +1,5 @@
 //! The types of a text, each by its place, and the names that they use.
-ghost use Rattle.std.specs.Prelude.{◌≡◌, ◌<◌, ◌↔◌, ◌≤◌, [], IsTrue, length, true, false, IfNone, IfOk, IfSome, OnOk};
+ghost use Rattle.std.specs.Prelude.{◌≡◌, ◌<◌, ◌↔◌, ◌≤◌, ◌%◌, [], slice_get, Some, IsTrue, length, true, false, IfNone, IfOk, IfSome, OnOk};
 ghost use Rattle.type_table.specs.Facts.{facts_of};
 ghost use Rattle.type_table.specs.Faults.{OnBreak};
 ghost use Rattle.type_table.specs.Table.{FieldsIn, IsBased, IsSound, Keeps, NamesIn, RefersIn, fields_at, name_at, shape, tree, trees};
@@ -67,7 +67,8 @@ impl Table {
     /// What is known of a type.
     pub fn facts(&self, place: u32) -> Facts
         requires { place < length self.now.types }
-        ensures { result ≡ facts_of (tree self.now place) }
+        ensures known { result ≡ facts_of (tree self.now place) }
+        ensures aligns { (1 ≤ result.align) × (65536 % result.align ≡ 0) }
     {
         facts_at(self.facts.as_slice(), place)
     }
@@ -104,7 +105,7 @@ impl Table {
     pub fn widest(&self, fields: &[FieldMeta]) -> Option<u32>
         requires { FieldsIn (length self.now.types) fields.now }
         ensures found { IfSome result (λ align. align ≡ widest (fields_at self.now.names (trees self.now) fields.now)) }
-        ensures positive { IfSome result (λ align. 1 ≤ align) }
+        ensures aligns { IfSome result (λ align. (1 ≤ align) × (65536 % align ≡ 0)) }
         ensures none { IfNone result (MAX_PARTS < parts_of_all (fields_at self.now.names (trees self.now) fields.now)) }
     {
         Some(sum_of(self.facts.as_slice(), fields)?.align)
@@ -113,6 +114,7 @@ impl Table {
     /// The type of a place.
     pub fn get(&self, place: u32) -> &TypeMeta
         requires { place < length self.now.types }
+        ensures there { slice_get self.now.types place ≡ Some result.now }
         ensures kind { tree self.now place ≡ shape self.now.names (trees self.now) result.now }
         ensures refers { RefersIn (length self.now.types) result.now }
         ensures ranked { RefersIn place result.now }
@@ -122,12 +124,14 @@ impl Table {
         &self.types.as_slice()[place as usize]
     }
 
-    /// The name of a number.
+    /// The name of a number; the empty one where there is none.
     pub fn name(&self, number: u32) -> &[u8]
-        requires { number < length self.now.names }
         ensures { result.now ≡ name_at self.now.names number }
     {
-        self.names[number as usize].as_bytes()
+        match self.names.get_index(number as usize) {
+            Some(name) => name.as_bytes(),
+            None => &[],
+        }
     }
 
     /// How many types there are.

@@ -1,11 +1,11 @@
 //! What the blocks of a text told.
-ghost use Rattle.std.specs.Prelude.{◌≡◌, ◌<◌, ◌^◌, None, is_some, length, nat_eq, IfOk, OnErr, OnOk, position, slice_get};
+ghost use Rattle.std.specs.Prelude.{◌≡◌, ◌<◌, ◌^◌, None, Some, is_some, length, nat_eq, IfOk, IfSome, IfNone, OnErr, OnOk, option_map, position, slice_get};
 ghost use Rattle.std.specs.List.{position_or_len};
 ghost use Rattle.std.specs.Map.{keys_of, lookup};
 ghost use Rattle.std.specs.Option.{option_copied};
 ghost use Rattle.indexmap.specs.IndexMap.{keys};
 ghost use Rattle.tsdl_parser.specs.Symbols.{is_text};
-ghost use Rattle.type_table.specs.ToldKept.{kept_clock, kept_event, kept_hostname, kept_name, kept_stream, kept_trace, kept_uuid, nothing_kept, same_event};
+ghost use Rattle.type_table.specs.ToldKept.{IsRate, kept_clock, kept_event, kept_hostname, kept_name, kept_stream, kept_trace, kept_uuid, nothing_kept, same_event};
 
 use indexmap::{IndexMap, IndexSet};
 use std::alloc::Global;
@@ -89,6 +89,15 @@ impl Told {
         &self.clocks
     }
 
+    /// How the clock at a place counts.
+    pub fn clock(&self, place: u32) -> Option<ClockRate>
+        ensures found { result ≡ option_map (λ clock. clock.1) (slice_get self.now.clocks place) }
+        ensures rate { IfSome result IsRate }
+    {
+        let (_, rate) = self.clocks.get_index(place as usize)?;
+        Some(*rate)
+    }
+
     /// The scopes of the stream of an id.
     pub fn stream(&self, id: u64) -> Option<StreamScopes>
         ensures { result ≡ lookup (nat_eq id) self.now.streams }
@@ -128,7 +137,8 @@ impl Told {
 
     /// Notes a clock of a new name. Their number has 32 bits.
     pub fn add_clock(&mut self, name: Text, rate: ClockRate) -> Result<(), OutOfMemory>
-        requires { lookup (is_text name) self.old.clocks ≡ None }
+        requires fresh { lookup (is_text name) self.old.clocks ≡ None }
+        requires rate { IsRate rate }
         ensures ok { OnOk result (self.new ≡ kept_clock name rate self.old) }
         ensures err { OnErr result (self.new ≡ self.old) }
     {
@@ -215,6 +225,14 @@ impl Told {
         ensures { result ≡ length self.now.events }
     {
         self.events.len()
+    }
+
+    /// The event's name of this number.
+    pub fn event_name_at(&self, number: u32) -> Option<&[u8]>
+        ensures found { IfSome result (λ name. slice_get self.now.event_names number ≡ Some name.now) }
+        ensures none { IfNone result (slice_get self.now.event_names number ≡ None) }
+    {
+        Some(self.event_names.get_index(number as usize)?.as_bytes())
     }
 
     /// The place of an event's name among the names, which are more by it where it is new.

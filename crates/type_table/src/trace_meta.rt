@@ -1,8 +1,8 @@
 //! What one trace declares.
-ghost use Rattle.std.specs.Prelude.{◌≡◌, ◌<◌, [], length, nat_eq, option_map, position, slice_get, unwrap_or, IfSome};
+ghost use Rattle.std.specs.Prelude.{◌≡◌, ◌<◌, [], length, nat_eq, option_map, position, slice_get, unwrap_or, IfNone, IfSome, None, Some};
 ghost use Rattle.std.specs.Map.{keys_of, lookup};
 ghost use Rattle.type_table.specs.Table.{name_at};
-ghost use Rattle.type_table.specs.ToldKept.{IfHere, PlaceIn, StreamIn, EventIn, ToldIn, same_event};
+ghost use Rattle.type_table.specs.ToldKept.{IfHere, IsRate, PlaceIn, StreamIn, EventIn, ToldIn, same_event};
 
 use crate::table::Table;
 use crate::told::{ClockRate, EventId, EventParts, StreamScopes, Told};
@@ -107,6 +107,22 @@ impl TraceMeta {
         ensures { result ≡ slice_get self.now.told.events place }
     {
         self.told.event(place)
+    }
+
+    /// How the clock at a place counts.
+    pub fn clock(&self, place: u32) -> Option<ClockRate>
+        ensures found { result ≡ option_map (λ clock. clock.1) (slice_get self.now.told.clocks place) }
+        ensures rate { IfSome result IsRate }
+    {
+        self.told.clock(place)
+    }
+
+    /// The event's name of this number.
+    pub fn event_name(&self, number: u32) -> Option<&[u8]>
+        ensures found { IfSome result (λ name. slice_get self.now.told.event_names number ≡ Some name.now) }
+        ensures none { IfNone result (slice_get self.now.told.event_names number ≡ None) }
+    {
+        self.told.event_name_at(number)
     }
 
     /// How many streams are declared.

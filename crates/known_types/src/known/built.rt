@@ -1,5 +1,5 @@
 //! Types that are added one by one, each of types that are there.
-ghost use Rattle.std.specs.Prelude.{◌≡◌, ◌≤◌, ◌<◌, ◌^◌, None, Some, length, map, OnOk, IfOk};
+ghost use Rattle.std.specs.Prelude.{◌≡◌, ◌≤◌, ◌<◌, ◌%◌, ◌^◌, None, Some, length, map, OnOk, IfOk};
 ghost use Rattle.indexmap.specs.IndexMap.{keys};
 ghost use Rattle.type_table.specs.Faults.{OnBreak};
 ghost use Rattle.known_types.specs.Known.{Gives, enum_of, pure, sized};
@@ -38,9 +38,9 @@ impl Known {
         self.told.clocks()
     }
 
-    /// Adds an integer of 1 to 64 bits that is aligned to at least one.
+    /// Adds an integer of 1 to 64 bits, whose alignment divides the greatest one.
     pub fn add_integer(&mut self, integer: Integer) -> Result<u32, Fault>
-        requires { (1 ≤ integer.size) × (integer.size ≤ 64) × (1 ≤ integer.align) }
+        requires { (1 ≤ integer.size) × (integer.size ≤ 64) × (1 ≤ integer.align) × (65536 % integer.align ≡ 0) }
         ensures { Gives (pure (Whole integer) (state self.old).known) result (state self.new) }
     {
         self.push(TypeMeta::Integer {

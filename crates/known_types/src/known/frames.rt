@@ -1,5 +1,5 @@
 //! Structures and variants that are being read.
-ghost use Rattle.std.specs.Prelude.{◌≡◌, ◌<◌, None, Some, if◌then◌else◌, length, option_map, reverse, OnErr, OnOk};
+ghost use Rattle.std.specs.Prelude.{◌≡◌, ◌<◌, ◌≤◌, ◌%◌, None, Some, if◌then◌else◌, length, option_map, reverse, OnErr, OnOk};
 ghost use Rattle.known_types.specs.Known.{Does, Gives, entered, fields_read, opened, outer, struct_ended, variant_ended, with_field, with_frames};
 ghost use Rattle.type_table.specs.Table.{FieldNamesIn, FieldsIn, name_at, tree, tree_at};
 ghost use Rattle.known_types.specs.View.{kept_field, kept_fields, kept_inner, kept_outer, read_at, state};
@@ -52,9 +52,10 @@ impl Known {
         Ok(())
     }
 
-    /// Ends a structure that is aligned to so many bits at least.
+    /// Ends a structure that is aligned to so many bits at least, a power of two up to 65,536.
     #[tactic(auto, using(crate::proofs::Frames::fields_are, crate::proofs::Frames::too_many))]
     pub fn end_struct(&mut self, alloc: Global, align: u32) -> Result<u32, Fault>
+        requires { (1 ≤ align) × (65536 % align ≡ 0) }
         ensures { Gives (struct_ended align (state self.old).known) result (state self.new) }
     {
         let fields = self.close(alloc);

@@ -7,7 +7,7 @@ ghost use Rattle.known_types.specs.References.{all_lead};
 ghost use Rattle.type_table.specs.Table.{tree, tree_at};
 ghost use Rattle.known_types.specs.Telling.{has_clock, has_event, scopes_begun, stream_if_any, stream_of, with_clock, with_event_named, with_hostname, with_stream, with_trace_read, with_uuid};
 ghost use Rattle.known_types.specs.View.{ScopesIn, places_begun, scopes_at, state, stream_at};
-ghost use Rattle.type_table.specs.ToldKept.{IfHere, PlaceIn, StreamIn};
+ghost use Rattle.type_table.specs.ToldKept.{IfHere, IsRate, PlaceIn, StreamIn};
 
 use crate::known::references::all_lead;
 use crate::known::{Known, ScopePlaces};
@@ -103,7 +103,8 @@ impl Known {
     /// Adds a clock of a new name.
     #[tactic(auto, unfolding(crate::specs::View::state))]
     pub fn tell_clock(&mut self, name: Text, rate: ClockRate) -> Result<(), OutOfMemory>
-        requires { lookup (is_text name) (state self.old).known.told.clocks ≡ None }
+        requires fresh { lookup (is_text name) (state self.old).known.told.clocks ≡ None }
+        requires rate { IsRate rate }
         ensures known { OnOk result ((state self.new).known ≡ with_told (with_clock name rate (state self.old).known.told) (state self.old).known) }
         ensures table { self.new.table ≡ self.old.table }
     {

@@ -1,10 +1,7 @@
 use Rattle.std.proofs.Common.{◌∙◌, ◌-◌, length, sym, arith, rules}
 use Rattle.type_table.specs.Table.{name_at}
-use Rattle.known_types.proofs.Nearest.{field_in, field_name_in, nearest_before, nearest_here}
+use Rattle.known_types.proofs.Nearest.{field_in, nearest_before, nearest_here}
 use Rattle.known_types.proofs.known.references.nearest.Goals as goal
-
-pub name-requires : goal.name-requires
-name-requires c = field_name_in (length c.args.table.now.names) c.args.fields.now (length c.args.fields.now - 1 - c.loop-behind.behind) (record { name = 0; ty = 0 }) (omega (arith, c.loop-behind-test.true)) c.requires.names
 
 pub returns-then-is_same_name-clause-found : goal.returns-then-is_same_name-clause-found
 returns-then-is_same_name-clause-found c =

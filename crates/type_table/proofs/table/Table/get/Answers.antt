@@ -27,3 +27,8 @@ pub returns-clause-sound : goal.returns-clause-sound
 returns-clause-sound c =
     let at : slice_get c.self.inside.types c.args.place ≡ Some c.index-as_slice-place.result = slice_get_read c.self.inside.types _ c.args.place _ refl (search rules) (search rules) in
     sound_at c.self.inside.types c.args.place c.index-as_slice-place.result c.self.invariant.sound at
+
+pub returns-clause-there : goal.returns-clause-there
+returns-clause-there c =
+    let at : slice_get c.self.inside.types c.args.place ≡ Some c.index-as_slice-place.result = slice_get_read c.self.inside.types _ c.args.place _ refl (search rules) (search rules) in
+    rw (sym c.self.view_is) at

@@ -1,8 +1,7 @@
 use Rattle.std.proofs.Common.{rules, arith}
 use Rattle.std.proofs.lemmas.Grind.{common_steps}
-use Rattle.type_table.specs.Table.{fields_at, trees}
 use Rattle.type_table.proofs.Tables.{fields_known, parts_sum, widest_sum}
-use Rattle.type_table.proofs.Trees.{widest_positive}
+use Rattle.type_table.proofs.Aligned.{widest_aligns}
 use Rattle.type_table.proofs.table.Table.widest.Goals as goal
 
 pub sum_of-requires : goal.sum_of-requires
@@ -20,8 +19,8 @@ returns-clause-found c =
     let widest = widest_sum c.self.inside.names.keys c.self.inside.types c.self.inside.facts c.args.fields.now c.self.invariant (search rules) in
     search rules
 
-pub returns-clause-positive : goal.returns-clause-positive
-returns-clause-positive c =
+pub returns-clause-aligns : goal.returns-clause-aligns
+returns-clause-aligns c =
     let widest = widest_sum c.self.inside.names.keys c.self.inside.types c.self.inside.facts c.args.fields.now c.self.invariant (search rules) in
-    let positive = widest_positive (fields_at c.self.inside.names.keys (trees (record { names = c.self.inside.names.keys; types = c.self.inside.types })) c.args.fields.now) in
+    let aligns = widest_aligns c.self.inside.names.keys c.self.inside.types c.args.fields.now c.self.invariant.sound in
     search rules

@@ -1,0 +1,170 @@
+-- What is read of a type from a place on, and the place behind it, or the first cause for which it can't be (CTF 1.8, section 4; the alignment of an empty list is this project's own).
+use Rattle.std.specs.Prelude.{◌≡◌, ℕ, zero, suc, ℤ, pos, nat_le, nat_lt, List, [], ◌∷◌, ◌++◌, Option, Some, None, Result, Ok, Err, length, option_map, slice_get, if◌then◌else◌}
+use Rattle.std.specs.Int.{next_multiple_of}
+use Rattle.type_table.specs.Table.{Table, tree}
+use Rattle.type_table.specs.Types.{alignment}
+use Rattle.type_table.specs.declared.integer.Integer.{Integer}
+use Rattle.type_table.specs.declared.meta.FieldMeta.{FieldMeta}
+use Rattle.type_table.specs.declared.meta.Reference.{Reference}
+use Rattle.type_table.specs.declared.meta.TypeMeta.{TypeMeta}
+use Rattle.type_table.specs.declared.meta.TypeMeta.TheVariants as meta
+use Rattle.ctf_fields.specs.declared.around.Around.{Around}
+use Rattle.ctf_fields.specs.declared.around.Scopes.{Scopes}
+use Rattle.ctf_fields.specs.declared.error.FieldError.{FieldError}
+use Rattle.ctf_fields.specs.declared.error.FieldError.TheVariants.{ShortContent, NoVariant, TooLong, OutOfMemory}
+use Rattle.ctf_fields.specs.declared.field.Field.{Field}
+use Rattle.ctf_fields.specs.declared.field.Field.TheVariants as field
+use Rattle.ctf_fields.specs.Choice.{chosen}
+use Rattle.ctf_fields.specs.Fields.{field_of, fields_of, number_of, with_member}
+use Rattle.ctf_fields.specs.Leaves.{integer_read, text_read}
+
+-- a value that was read, and the place behind it; or why it couldn't be
+pub data Reads (A : Type 0) : Type 0 where
+  Got : A → ℕ → Reads A
+  Fails : FieldError → Reads A
+
+abbrev pub then_read : {A B : Type 0} → Reads A → (A → ℕ → Reads B) → Reads B
+then_read (Got a place) next = next a place
+then_read (Fails cause) next = Fails cause
+
+abbrev pub as_read : {A B : Type 0} → (A → B) → Reads A → Reads B
+as_read f (Got a place) = Got (f a) place
+as_read f (Fails cause) = Fails cause
+
+-- a call answers what is read; want of memory is the one free answer
+abbrev pub Gives : {A : Type 0} → Reads A → Result (A × ℕ) FieldError → Type 0
+Gives reads (Ok r) = reads ≡ Got r.0 r.1
+Gives reads (Err ShortContent) = reads ≡ Fails ShortContent
+Gives reads (Err NoVariant) = reads ≡ Fails NoVariant
+Gives reads (Err TooLong) = reads ≡ Fails TooLong
+Gives reads (Err OutOfMemory) = Unit {0}
+
+-- a call answers the place behind what is read, and leaves this value
+abbrev pub GivesWith : {A : Type 0} → Reads A → A → Result ℕ FieldError → Type 0
+GivesWith reads a (Ok place) = reads ≡ Got a place
+GivesWith reads a (Err ShortContent) = reads ≡ Fails ShortContent
+GivesWith reads a (Err NoVariant) = reads ≡ Fails NoVariant
+GivesWith reads a (Err TooLong) = reads ≡ Fails TooLong
+GivesWith reads a (Err OutOfMemory) = Unit {0}
+
+-- how many items a list whose length is a field may have
+abbrev pub MAX_LENGTH : ℕ
+MAX_LENGTH = 1048576
+
+-- how deep types go
+abbrev pub MAX_DEPTH : ℕ
+MAX_DEPTH = 32
+
+-- what fields are read from: types, bits up to an end, and the scopes that were read before
+pub record From : Type 0 where
+  pub table : Table
+  pub bytes : List ℕ
+  pub end : ℕ
+  pub scopes : Scopes
+
+-- how the types within a type are read: the name of the field that it is, its place, the structures around it, and the place of its bits
+abbrev pub Inner : Type 0
+Inner = Option ℕ → ℕ → List Around → ℕ → Reads Field
+
+-- ---- integers and strings
+
+abbrev pub leaf : {A : Type 0} → (A → Field) → Option (A × ℕ) → Reads Field
+leaf f None = Fails ShortContent
+leaf f (Some r) = Got (f r.0) r.1
+
+-- the integer of a type, and of the type of an enumeration
+abbrev pub integer_of : Option TypeMeta → Option Integer
+integer_of (Some (meta.Integer size align signed order map)) = Some (record { size = size; align = align; signed = signed; order = order; clock = map })
+integer_of _ = None
+
+-- the integer that the type at a place is, or that it is an enumeration of
+abbrev pub integer_type : Table → ℕ → Option Integer
+integer_type t ty = by (slice_get t.types ty)
+  where
+    by : Option TypeMeta → Option Integer
+    by (Some (meta.Enum base labels)) = integer_of (slice_get t.types base)
+    by other = integer_of other
+
+-- an integer, or an enumeration, whose own type is at this place
+abbrev pub read_number : From → ℕ → Option Integer → ℕ → Reads Field
+read_number from ty None at = Fails ShortContent
+read_number from ty (Some i) at = leaf (field.Int ty) (integer_read i from.bytes from.end at)
+
+-- ---- structures, variants and lists, where the types within are read so
+
+-- the fields of the innermost structure, one behind the other
+abbrev pub read_member : Inner → FieldMeta → List Around → ℕ → Reads (List Around)
+read_member inner f around at = as_read (λ g. with_member (record { name = f.name; field = g }) around) (inner (Some f.name) f.ty around at)
+
+abbrev pub read_members : Inner → List FieldMeta → List Around → ℕ → Reads (List Around)
+read_members inner [] around at = Got around at
+read_members inner (f ∷ fs) around at = then_read (read_member inner f around at) (read_members inner fs)
+
+abbrev pub read_struct : Inner → Option ℕ → ℕ → List FieldMeta → List Around → ℕ → Reads Field
+read_struct inner name align fs around at =
+    as_read (λ whole. field.Struct (fields_of whole)) (read_members inner fs (record { name = name; fields = [] } ∷ around) (next_multiple_of at align))
+
+abbrev pub read_choice : Inner → Option FieldMeta → List Around → ℕ → Reads Field
+read_choice inner None around at = Fails NoVariant
+read_choice inner (Some f) around at = as_read (field.Choice f.name) (inner None f.ty around at)
+
+-- so many of a type, one behind the other, behind those that were read
+abbrev pub read_item : Inner → ℕ → List Around → List Field → ℕ → Reads (List Field)
+read_item inner ty around done at = as_read (λ g. done ++ g ∷ []) (inner None ty around at)
+
+abbrev pub read_items : Inner → ℕ → List Around → ℕ → List Field → ℕ → Reads (List Field)
+read_items inner ty around zero done at = Got done at
+read_items inner ty around (suc n) done at = then_read (read_item inner ty around done at) (read_items inner ty around n)
+
+-- an integer at each place
+abbrev pub numbers : From → Integer → Inner
+numbers from i = λ name ty around at. read_number from ty (Some i) at
+
+-- a structure with one more field, which is read so
+abbrev pub member_read : Reads Field → FieldMeta → Around → Reads Around
+member_read reads f a = as_read (λ g. record { name = a.name; fields = a.fields ++ record { name = f.name; field = g } ∷ [] }) reads
+
+-- what a type is aligned to
+abbrev pub align_at : Table → ℕ → ℕ
+align_at t ty = if nat_lt ty (length t.types) then alignment (tree t ty) else 8
+
+-- a list is aligned as its items are, also where it has none
+abbrev pub read_list : Inner → Table → ℕ → ℕ → List Around → ℕ → Reads Field
+read_list inner t count ty around at = as_read field.List (read_items inner ty around count [] (next_multiple_of at (align_at t ty)))
+
+-- an array of integers: the integer, how many, and the place of their type
+abbrev pub array_by : Table → Option TypeMeta → Option (Integer × ℕ × ℕ)
+array_by t (Some (meta.Array count item)) = option_map (λ i. (i, count, item)) (integer_type t item)
+array_by t _ = None
+
+abbrev pub length_of : Option (ℤ × ℕ) → Option ℕ
+length_of (Some (pos n, ty)) = if nat_le n MAX_LENGTH then Some n else None
+length_of _ = None
+
+abbrev pub read_sequence : Inner → Table → Option ℕ → ℕ → List Around → ℕ → Reads Field
+read_sequence inner t None ty around at = Fails TooLong
+read_sequence inner t (Some count) ty around at = read_list inner t count ty around at
+
+-- ---- types
+
+abbrev pub number_at : From → List Around → Reference → Option (ℤ × ℕ)
+number_at from around way = number_of (field_of from.table.names from.scopes around way)
+
+unfoldable pub read_by : Inner → From → Option ℕ → ℕ → Option TypeMeta → List Around → ℕ → Reads Field
+read_by inner from name ty None around at = Fails ShortContent
+read_by inner from name ty (Some (meta.Integer size align signed order map)) around at = read_number from ty (Some (record { size = size; align = align; signed = signed; order = order; clock = map })) at
+read_by inner from name ty (Some (meta.Enum base labels)) around at = read_number from ty (integer_of (slice_get from.table.types base)) at
+read_by inner from name ty (Some meta.Str) around at = leaf field.Text (text_read from.bytes from.end at)
+read_by inner from name ty (Some (meta.Struct align fs)) around at = read_struct inner name align fs around at
+read_by inner from name ty (Some (meta.Variant tag fs)) around at = read_choice inner (chosen from.table (number_at from around tag) fs) around at
+read_by inner from name ty (Some (meta.Array count item)) around at = read_list inner from.table count item around at
+read_by inner from name ty (Some (meta.Sequence count item)) around at = read_sequence inner from.table (length_of (number_at from around count)) item around at
+
+-- the type at a place, of which none goes deeper than so many
+unfoldable pub read : ℕ → From → Option ℕ → ℕ → List Around → ℕ → Reads Field
+read zero from name ty around at = Fails ShortContent
+read (suc depth) from name ty around at = read_by (read depth from) from name ty (slice_get from.table.types ty) around at
+
+-- the type of a scope
+abbrev pub scope_read : From → ℕ → ℕ → Reads Field
+scope_read from ty at = read MAX_DEPTH from None ty [] at

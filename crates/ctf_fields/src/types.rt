@@ -1,0 +1,55 @@
+//! Types by their places.
+ghost use Rattle.std.specs.Prelude.{◌≡◌, IfSome, Some, slice_get};
+ghost use Rattle.std.specs.Option.{option_copied};
+ghost use Rattle.ctf_fields.specs.Leaves.{IsReadable};
+ghost use Rattle.ctf_fields.specs.Reading.{integer_of, integer_type};
+ghost use Rattle.type_table.specs.Table.{IsSound};
+
+use type_table::{Integer, Table, TypeMeta};
+
+/// The type at a place.
+pub fn type_at(table: &Table, place: u32) -> Option<&TypeMeta>
+    ensures found { option_copied result ≡ slice_get table.now.types place }
+    ensures sound { IfSome result (λ ty. IsSound ty.now) }
+{
+    if (place as usize) < table.len() {
+        Some(table.get(place))
+    } else {
+        None
+    }
+}
+
+/// The integer that a type is.
+pub fn integer_of(meta: &TypeMeta) -> Option<Integer>
+    requires { IsSound meta.now }
+    ensures found { result ≡ integer_of (Some meta.now) }
+    ensures readable { IfSome result IsReadable }
+{
+    match meta {
+        TypeMeta::Integer {
+            size,
+            align,
+            signed,
+            order,
+            map,
+        } => Some(Integer {
+            size: *size,
+            align: *align,
+            signed: *signed,
+            order: *order,
+            clock: *map,
+        }),
+        _ => None,
+    }
+}
+
+/// The integer that the type at a place is, or that it is an enumeration of.
+pub fn integer_type(table: &Table, place: u32) -> Option<Integer>
+    ensures found { result ≡ integer_type table.now place }
+    ensures readable { IfSome result IsReadable }
+{
+    match type_at(table, place)? {
+        TypeMeta::Enum { base, .. } => integer_of(type_at(table, *base)?),
+        meta => integer_of(meta),
+    }
+}

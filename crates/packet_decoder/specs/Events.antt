@@ -1,0 +1,146 @@
+-- The events of a packet (CTF 1.8, section 6; the order of the checks is this project's own).
+use Rattle.std.specs.Prelude.{◌≡◌, ℕ, zero, suc, nat_eq, nat_lt, List, [], ◌∷◌, ◌++◌, drop, Option, Some, None, Result, Ok, Err, codes, option_map, position, slice_get, if◌then◌else◌}
+use Rattle.std.specs.Map.{keys_of}
+use Rattle.type_table.specs.ToldKept.{MetaParts, same_event}
+use Rattle.type_table.specs.declared.told.EventParts.{EventParts}
+use Rattle.type_table.specs.declared.told.StreamScopes.{StreamScopes}
+use Rattle.ctf_fields.specs.declared.around.Scopes.{Scopes}
+use Rattle.ctf_fields.specs.declared.error.FieldError.{FieldError}
+use Rattle.ctf_fields.specs.declared.error.FieldError.TheVariants as error
+use Rattle.ctf_fields.specs.declared.field.Field.{Field}
+use Rattle.ctf_fields.specs.declared.field.Field.TheVariants as field
+use Rattle.ctf_fields.specs.declared.raw.RawEvent.{RawEvent}
+use Rattle.ctf_fields.specs.Fields.{number_of}
+use Rattle.ctf_fields.specs.Named.{last_named}
+use Rattle.ctf_fields.specs.Reading.{From, Reads, Got, Fails}
+use Rattle.packet_decoder.specs.Headings.{and_then, heading, read_scope}
+use Rattle.packet_decoder.specs.Times.{stamp_in, timed}
+use Rattle.packet_decoder.specs.Values.{id_in, number_named}
+use Rattle.packet_decoder.specs.declared.cause.Cause.{Cause}
+use Rattle.packet_decoder.specs.declared.cause.Cause.TheVariants as cause
+use Rattle.packet_decoder.specs.declared.events.Cursor.{Cursor}
+use Rattle.packet_decoder.specs.declared.events.EventHead.{EventHead}
+use Rattle.packet_decoder.specs.declared.failure.Failure.{Failure}
+use Rattle.packet_decoder.specs.declared.failure.Failure.TheVariants as failure
+use Rattle.packet_decoder.specs.declared.heading.Heading.{Heading}
+use Rattle.packet_decoder.specs.declared.piece.PacketResult.{PacketResult}
+use Rattle.packet_decoder.specs.declared.piece.PacketResult.TheVariants as result
+use Rattle.packet_decoder.specs.declared.piece.PacketSpan.{PacketSpan}
+
+-- a packet whose events are read: what its trace declares, its bits, its stream and its processor
+pub record Within : Type 0 where
+  pub meta : MetaParts
+  pub bytes : List ℕ
+  pub end : ℕ
+  pub stream : ℕ
+  pub parts : StreamScopes
+  pub cpu : ℕ
+
+abbrev pub from_of : Within → Scopes → From
+from_of w s = record { table = w.meta.table; bytes = w.bytes; end = w.end; scopes = s }
+
+-- ---- the scopes of an event, one after the other
+
+abbrev pub cleared : Scopes → Scopes
+cleared s = record { packet_header = s.packet_header; packet_context = s.packet_context; event_header = None; stream_context = None; event_context = None; event_fields = None }
+
+abbrev pub with_event_header : Option Field → Scopes → Scopes
+with_event_header f s = record { packet_header = s.packet_header; packet_context = s.packet_context; event_header = f; stream_context = s.stream_context; event_context = s.event_context; event_fields = s.event_fields }
+
+abbrev pub with_stream_context : Option Field → Scopes → Scopes
+with_stream_context f s = record { packet_header = s.packet_header; packet_context = s.packet_context; event_header = s.event_header; stream_context = f; event_context = s.event_context; event_fields = s.event_fields }
+
+abbrev pub with_event_context : Option Field → Scopes → Scopes
+with_event_context f s = record { packet_header = s.packet_header; packet_context = s.packet_context; event_header = s.event_header; stream_context = s.stream_context; event_context = f; event_fields = s.event_fields }
+
+abbrev pub cause_of : FieldError → Cause
+cause_of error.NoVariant = cause.NoVariant
+cause_of error.TooLong = cause.TooLong
+cause_of _ = cause.ShortContent
+
+abbrev pub as_result : Reads (Option Field) → Result (Option Field × ℕ) Cause
+as_result (Got f place) = Ok (f, place)
+as_result (Fails e) = Err (cause_of e)
+
+-- the field of a scope, and the place behind it
+abbrev pub scope_at : Within → Scopes → Option ℕ → ℕ → Result (Option Field × ℕ) Cause
+scope_at w s ty at = as_result (read_scope (from_of w s) ty at)
+
+-- ---- an event's header
+
+abbrev pub event_at : MetaParts → Option ℕ → Option (ℕ × EventParts)
+event_at meta None = None
+event_at meta (Some place) = option_map (λ event. (place, event.1)) (slice_get meta.told.events place)
+
+abbrev pub event_by : MetaParts → ℕ → Option ℕ → Option (ℕ × EventParts)
+event_by meta stream None = None
+event_by meta stream (Some id) = event_at meta (position (same_event (record { stream = stream; id = id })) (keys_of meta.told.events))
+
+-- the event that a header names: the last field of the name `id` tells it, 0 where there is none
+abbrev pub event_of : MetaParts → ℕ → Option Field → Option (ℕ × EventParts)
+event_of meta stream header = event_by meta stream (id_in (number_of (last_named meta.table.names (codes "id") header)))
+
+abbrev pub head_by : Within → Option Field → ℕ → Option (ℕ × EventParts) → Result EventHead Cause
+head_by w header at None = Err cause.UnknownEvent
+head_by w header at (Some e) = Ok (record { header = header; at = at; event = e.0; parts = e.1; stamp = stamp_in w.meta.table (number_named w.meta.table (codes "timestamp") header) })
+
+-- the header, what event it names, and its timestamp
+unfoldable pub event_head : Within → Scopes → ℕ → Result EventHead Cause
+event_head w s at = and_then (scope_at w s w.parts.event_header at) (λ h. head_by w h.0 h.1 (event_of w.meta w.stream h.0))
+
+-- ---- what stands behind the header: the stream's context for events, the event's context, and its fields
+
+unfoldable pub event_fields : Within → Scopes → EventParts → ℕ → Result (Option Field × ℕ) Cause
+event_fields w s parts at = and_then (scope_at w s parts.context at) (λ x. scope_at w (with_event_context x.0 s) parts.fields x.1)
+
+unfoldable pub event_body : Within → Scopes → EventParts → ℕ → Result (Option Field × ℕ) Cause
+event_body w s parts at = and_then (scope_at w s w.parts.event_context at) (λ x. event_fields w (with_stream_context x.0 s) parts x.1)
+
+-- ---- events
+
+-- no field is a structure without fields
+abbrev pub field_or_none : Option Field → Field
+field_or_none None = field.Struct []
+field_or_none (Some f) = f
+
+abbrev pub event_timed : Within → Cursor → EventHead → Option Field → ℕ → Result (RawEvent × Cursor) Cause
+event_timed w c head fields at =
+    if nat_eq at c.at then Err cause.NoBits
+    else and_then (timed w.meta head.stamp c.clock) (λ t. Ok (record { time = t.1; cpu = w.cpu; event = head.event; fields = field_or_none fields }, record { clock = t.0; at = at }))
+
+-- the event at a place, and what stands behind it
+unfoldable pub event : Within → Scopes → Cursor → Result (RawEvent × Cursor) Cause
+event w s c =
+    and_then (event_head w s c.at) (λ head.
+    and_then (event_body w (with_event_header head.header s) head.parts head.at) (λ body. event_timed w c head body.0 body.1))
+
+-- with the next event behind those that were read
+abbrev pub event_added : Within → Scopes → List RawEvent → Cursor → Result (List RawEvent × Cursor) Cause
+event_added w s done c = and_then (event w s c) (λ r. Ok (done ++ r.0 ∷ [], r.1))
+
+-- a call answers where the next event is read, and leaves this list; want of memory is the one free answer
+abbrev pub AnswersWith : Result (List RawEvent × Cursor) Cause → List RawEvent → Result Cursor Failure → Type 0
+AnswersWith answer after (Ok next) = answer ≡ Ok (after, next)
+AnswersWith answer after (Err (failure.Refused cause)) = answer ≡ Err cause
+AnswersWith answer after (Err failure.OutOfMemory) = Unit {0}
+
+-- the events from a place on, behind those that were read, of which each takes a bit at least: so many at most
+unfoldable pub events_from : ℕ → Within → Scopes → List RawEvent → Cursor → Result (List RawEvent) Cause
+events_from zero w s done c = Ok done
+events_from (suc most) w s done c =
+    if nat_lt c.at w.end then and_then (event_added w s done c) (λ r. events_from most w s r.0 r.1)
+    else Ok done
+
+abbrev pub as_packet : Result (List RawEvent) Cause → PacketResult
+as_packet (Ok events) = result.Events events
+as_packet (Err cause) = result.Refused cause
+
+abbrev pub within : MetaParts → List ℕ → PacketSpan → Heading → Within
+within meta rest span h = record { meta = meta; bytes = rest; end = span.content_bits; stream = h.stream; parts = h.parts; cpu = span.cpu }
+
+unfoldable pub packet_events : MetaParts → List ℕ → PacketSpan → Heading → Result (List RawEvent) Cause
+packet_events meta rest span h = events_from span.content_bits (within meta rest span h) (cleared h.scopes) [] (record { clock = span.begin; at = span.start_bit })
+
+-- what a packet holds: all of its events, or the first cause for which it is refused
+unfoldable pub decoded : MetaParts → List ℕ → PacketSpan → PacketResult
+decoded meta file span = as_packet (and_then (heading meta (drop span.offset file)) (packet_events meta (drop span.offset file) span))

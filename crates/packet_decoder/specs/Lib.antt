@@ -1,0 +1,5 @@
+pub mod Events
+pub mod Headings
+pub mod Pieces
+pub mod Times
+pub mod Values

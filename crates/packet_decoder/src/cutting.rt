@@ -1,0 +1,119 @@
+//! Stream files, cut into packets.
+ghost use Rattle.std.specs.Prelude.{◌≡◌, ◌≤◌, ◌<◌, ◌+◌, ◌*◌, ◌^◌, IfOk, IfSome, drop, length};
+ghost use Rattle.packet_decoder.specs.Headings.{Answers};
+ghost use Rattle.packet_decoder.specs.Pieces.{AllLieIn, LiesIn, packet_at, pieces, right_sizes, sizes, span_of};
+
+use crate::cause::Cause;
+use crate::failure::Failure;
+use crate::heading::{Heading, read_heading};
+use crate::piece::{PacketSpan, Piece};
+use crate::values::{below_32, below_64, counter_in, number_named, value_named};
+use sqlite_items::Items;
+use std::alloc::Global;
+use trace_types::OutOfMemory;
+use type_table::{Table, TraceMeta};
+
+/// The pieces of a stream file, in order: packets without a gap between them, up to the end or to a place where no
+/// packet can be cut; what lies behind that is the last piece.
+pub fn cut(alloc: Global, meta: &TraceMeta, file: &[u8]) -> Result<Items<Piece>, OutOfMemory>
+    requires { length file.now ≤ 2 ^ 60 }
+    ensures pieces { IfOk result (λ found. found ≡ pieces meta.now file.now) }
+    ensures inside { IfOk result (λ found. AllLieIn file.now found) }
+{
+    let mut found = Items::new(alloc);
+    let mut offset = 0;
+    while offset < file.len() as u64 {
+        match packet_at(alloc, meta, offset, bytes_from(file, offset)) {
+            Ok(span) => {
+                found.push(Piece::Packet(span))?;
+                offset += span.bytes;
+            }
+            Err(Failure::Refused(cause)) => {
+                found.push(Piece::Bad { offset, cause })?;
+                return Ok(found);
+            }
+            Err(Failure::OutOfMemory) => return Err(OutOfMemory),
+        }
+    }
+    Ok(found)
+}
+
+/// The bytes of a file from this one on.
+pub fn bytes_from(file: &[u8], offset: u64) -> &[u8]
+    ensures { result.now ≡ drop offset file.now }
+{
+    match file.get(offset as usize..) {
+        Some(rest) => rest,
+        None => &[],
+    }
+}
+
+// The packet that these bytes begin with, which lie at this place in a file.
+#[tactic(auto, unfolding(crate::specs::Pieces::packet_at))]
+fn packet_at(
+    alloc: Global,
+    meta: &TraceMeta,
+    offset: u64,
+    rest: &[u8],
+) -> Result<PacketSpan, Failure>
+    requires { length rest.now ≤ 2 ^ 60 }
+    ensures answers { Answers (packet_at meta.now offset rest.now) result }
+    ensures within { IfOk result (λ span. (1 ≤ span.bytes) × (span.bytes ≤ length rest.now) × (span.content_bits ≤ 8 * span.bytes) × (span.start_bit ≤ span.content_bits) × (span.offset ≡ offset)) }
+{
+    let heading = read_heading(alloc, meta, rest)?;
+    span_of(meta.table(), offset, 8 * rest.len() as u64, &heading)
+}
+
+// A packet with this heading, at this place in a file of which so many bits are left.
+#[tactic(auto, unfolding(crate::specs::Pieces::span_of))]
+fn span_of(table: &Table, offset: u64, left: u64, heading: &Heading) -> Result<PacketSpan, Failure>
+    ensures answers { Answers (span_of table.now offset left heading.now) result }
+    ensures within { IfOk result (λ span. (1 ≤ span.bytes) × (8 * span.bytes ≤ left) × (span.content_bits ≤ 8 * span.bytes) × (span.start_bit ≤ span.content_bits) × (span.offset ≡ offset)) }
+{
+    let context = heading.scopes.packet_context.as_ref();
+    let packet = value_named(table, b"packet_size", context);
+    let content = value_named(table, b"content_size", context);
+    let Some((bytes, content_bits)) = sizes(left, heading.start, packet, content) else {
+        return Err(Failure::Refused(Cause::BadSize));
+    };
+    Ok(PacketSpan {
+        offset,
+        bytes,
+        start_bit: heading.start,
+        content_bits,
+        stream: heading.stream,
+        begin: below_64(value_named(table, b"timestamp_begin", context)).unwrap_or(0),
+        cpu: below_32(value_named(table, b"cpu_id", context)).unwrap_or(0),
+        seq: counter_in(table, number_named(table, b"packet_seq_num", context)),
+        discarded: counter_in(table, number_named(table, b"events_discarded", context)),
+    })
+}
+
+// The size of a packet in bytes, and that of its content in bits.
+fn sizes(left: u64, start: u64, packet: Option<i128>, content: Option<i128>) -> Option<(u64, u64)>
+    ensures sizes { result ≡ sizes left start packet content }
+    ensures within { IfSome result (λ r. (1 ≤ r.0) × (8 * r.0 ≤ left) × (r.1 ≤ 8 * r.0) × (start ≤ r.1)) }
+{
+    match (packet, content) {
+        (Some(packet), Some(content)) => right_sizes(left, start, packet, content),
+        (Some(packet), None) => right_sizes(left, start, packet, packet),
+        (None, Some(content)) => right_sizes(left, start, content, content),
+        (None, None) => right_sizes(left, start, i128::from(left), i128::from(left)),
+    }
+}
+
+fn right_sizes(left: u64, start: u64, packet: i128, content: i128) -> Option<(u64, u64)>
+    ensures sizes { result ≡ right_sizes left start packet content }
+    ensures within { IfSome result (λ r. (1 ≤ r.0) × (8 * r.0 ≤ left) × (r.1 ≤ 8 * r.0) × (start ≤ r.1)) }
+{
+    if packet < 0 || content < 0 || packet > i128::from(left) || content > packet {
+        return None;
+    }
+    let packet = packet as u64;
+    let content = content as u64;
+    if packet % 8 == 0 && packet >= 8 && start <= content {
+        Some((packet / 8, content))
+    } else {
+        None
+    }
+}

@@ -1,0 +1,201 @@
+//! The events of a packet.
+ghost use Rattle.std.specs.Prelude.{◌≡◌, ◌≤◌, ◌<◌, ◌^◌, ◌++◌, IfOk, OnOk, IfSome, [], ◌∷◌};
+ghost use Rattle.std.specs.Option.{option_copied};
+ghost use Rattle.packet_decoder.specs.Events.{cleared, event, event_body, event_fields, event_head, event_of, field_or_none, scope_at, with_event_header};
+ghost use Rattle.packet_decoder.specs.Headings.{Answers};
+
+use crate::cause::Cause;
+use crate::failure::Failure;
+use crate::heading::read_scope;
+use crate::times::{Stamp, stamp_in, timed};
+use crate::values::{id_in, number_named, number_of};
+use ctf_fields::{BitSpan, Field, FieldError, RawEvent, Scopes, last_named};
+use sqlite_items::Items;
+use std::alloc::Global;
+use std::marker::Model;
+use type_table::{EventParts, StreamScopes, TraceMeta};
+
+/// A packet whose events are read: what its trace declares, its bits, its stream and its processor.
+#[derive(Drop)]
+pub struct Packet<'a> {
+    pub meta: &'a TraceMeta,
+    pub bits: BitSpan<'a>,
+    pub stream: u64,
+    pub parts: StreamScopes,
+    pub cpu: u32,
+}
+
+impl<'a> Model for Packet<'a> {
+    ghost use Rattle.ctf_fields.specs.Leaves.{IsSpan};
+    ghost use Rattle.packet_decoder.specs.Events.{Within};
+
+    ghost Value = { Within };
+
+    ghost view = { λ p. record { meta = p.meta.now; bytes = p.bits.bytes.now; end = p.bits.end; stream = p.stream; parts = p.parts; cpu = p.cpu } };
+
+    ghost invariant = { λ p. IsSpan p.bits.bytes.now p.bits.end };
+}
+
+/// Where the next event is read: the clock's value before it, and its first bit.
+#[derive(Clone, Copy, Debug, PartialEq, Eq)]
+pub struct Cursor {
+    pub clock: u64,
+    pub at: u64,
+}
+
+/// An event's header, the first bit behind it, the event's place among those that are declared, the types of its
+/// scopes, and its timestamp.
+#[derive(Debug, Drop)]
+pub struct EventHead {
+    pub header: Option<Field>,
+    pub at: u64,
+    pub event: u32,
+    pub parts: EventParts,
+    pub stamp: Option<Stamp>,
+}
+
+// The field of a scope, and the place behind it.
+fn scope_at(
+    alloc: Global,
+    packet: &Packet<'_>,
+    scopes: &Scopes,
+    ty: Option<u32>,
+    at: u64,
+) -> Result<(Option<Field>, u64), Failure>
+    requires { at ≤ 2 ^ 63 }
+    ensures answers { Answers (scope_at packet.now scopes.now ty at) result }
+    ensures forward { IfOk result (λ r. (at ≤ r.1) × (r.1 ≤ 2 ^ 63)) }
+{
+    match read_scope(alloc, packet.meta, ty, packet.bits, at, scopes) {
+        Ok((field, end)) => Ok((field, end)),
+        Err(FieldError::ShortContent) => Err(Failure::Refused(Cause::ShortContent)),
+        Err(FieldError::NoVariant) => Err(Failure::Refused(Cause::NoVariant)),
+        Err(FieldError::TooLong) => Err(Failure::Refused(Cause::TooLong)),
+        Err(FieldError::OutOfMemory) => Err(Failure::OutOfMemory),
+    }
+}
+
+// The place of the event that a header names, and the types of its scopes.
+fn event_of(meta: &TraceMeta, stream: u64, header: Option<&Field>) -> Option<(u32, EventParts)>
+    ensures { result ≡ event_of meta.now stream (option_copied header.entry) }
+{
+    let id = id_in(number_of(last_named(meta.table(), b"id", header)))?;
+    let place = meta.find_event(stream, id)?;
+    let (_, parts) = meta.event(place)?;
+    Some((place, parts))
+}
+
+// The header, what event it names, and its timestamp.
+#[tactic(auto, unfolding(crate::specs::Events::event_head))]
+fn event_head(
+    alloc: Global,
+    packet: &Packet<'_>,
+    scopes: &Scopes,
+    at: u64,
+) -> Result<EventHead, Failure>
+    requires { at ≤ 2 ^ 63 }
+    ensures answers { Answers (event_head packet.now scopes.now at) result }
+    ensures forward { IfOk result (λ h. (at ≤ h.at) × (h.at ≤ 2 ^ 63)) }
+    ensures stamp { IfOk result (λ h. IfSome h.stamp (λ s. (1 ≤ s.size) × (s.size ≤ 64))) }
+{
+    let (header, at) = scope_at(alloc, packet, scopes, packet.parts.event_header, at)?;
+    let Some((event, parts)) = event_of(packet.meta, packet.stream, header.as_ref()) else {
+        return Err(Failure::Refused(Cause::UnknownEvent));
+    };
+    let table = packet.meta.table();
+    let stamp = stamp_in(table, number_named(table, b"timestamp", header.as_ref()));
+    Ok(EventHead {
+        header,
+        at,
+        event,
+        parts,
+        stamp,
+    })
+}
+
+// The event's fields, behind its context.
+#[tactic(auto, unfolding(crate::specs::Events::event_fields))]
+fn event_fields(
+    alloc: Global,
+    packet: &Packet<'_>,
+    scopes: &mut Scopes,
+    parts: EventParts,
+    at: u64,
+) -> Result<(Option<Field>, u64), Failure>
+    requires { at ≤ 2 ^ 63 }
+    ensures answers { Answers (event_fields packet.now scopes.old parts at) result }
+    ensures forward { IfOk result (λ r. (at ≤ r.1) × (r.1 ≤ 2 ^ 63)) }
+    ensures stays { OnOk result (cleared scopes.new ≡ cleared scopes.old) }
+{
+    let (context, at) = scope_at(alloc, packet, scopes, parts.context, at)?;
+    scopes.event_context = context;
+    scope_at(alloc, packet, scopes, parts.fields, at)
+}
+
+// What stands behind an event's header: the stream's context for events, and the event's own.
+#[tactic(auto, unfolding(crate::specs::Events::event_body))]
+fn event_body(
+    alloc: Global,
+    packet: &Packet<'_>,
+    scopes: &mut Scopes,
+    parts: EventParts,
+    at: u64,
+) -> Result<(Option<Field>, u64), Failure>
+    requires { at ≤ 2 ^ 63 }
+    ensures answers { Answers (event_body packet.now scopes.old parts at) result }
+    ensures forward { IfOk result (λ r. (at ≤ r.1) × (r.1 ≤ 2 ^ 63)) }
+    ensures stays { OnOk result (cleared scopes.new ≡ cleared scopes.old) }
+{
+    let (context, at) = scope_at(alloc, packet, scopes, packet.parts.event_context, at)?;
+    scopes.stream_context = context;
+    event_fields(alloc, packet, scopes, parts, at)
+}
+
+// No scope of an event is read.
+fn clear(scopes: &mut Scopes)
+    ensures { scopes.new ≡ cleared scopes.old }
+{
+    scopes.event_header = None;
+    scopes.stream_context = None;
+    scopes.event_context = None;
+    scopes.event_fields = None;
+}
+
+fn field_or_none(alloc: Global, field: Option<Field>) -> Field
+    ensures { result ≡ field_or_none field }
+{
+    match field {
+        Some(field) => field,
+        None => Field::Struct(Items::new(alloc)),
+    }
+}
+
+/// The event at a place, and what stands behind it.
+#[tactic(auto, unfolding(crate::specs::Events::event))]
+pub fn read_event(
+    alloc: Global,
+    packet: &Packet<'_>,
+    scopes: &mut Scopes,
+    cursor: Cursor,
+) -> Result<(RawEvent, Cursor), Failure>
+    requires { cursor.at ≤ 2 ^ 63 }
+    ensures answers { Answers (event packet.now (cleared scopes.old) cursor) result }
+    ensures forward { IfOk result (λ r. (cursor.at < r.1.at) × (r.1.at ≤ 2 ^ 63)) }
+    ensures stays { OnOk result (cleared scopes.new ≡ cleared scopes.old) }
+{
+    clear(scopes);
+    let head = event_head(alloc, packet, scopes, cursor.at)?;
+    scopes.event_header = head.header;
+    let (fields, at) = event_body(alloc, packet, scopes, head.parts, head.at)?;
+    if at == cursor.at {
+        return Err(Failure::Refused(Cause::NoBits));
+    }
+    let (clock, time) = timed(packet.meta, head.stamp, cursor.clock)?;
+    let event = RawEvent {
+        time,
+        cpu: packet.cpu,
+        event: head.event,
+        fields: field_or_none(alloc, fields),
+    };
+    Ok((event, Cursor { clock, at }))
+}
