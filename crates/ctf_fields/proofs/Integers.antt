@@ -111,4 +111,4 @@ array_read d from name ty i count item around at h found =
     let is = is_array from.table (slice_get from.table.types ty) i count item found in
     one_deeper d from name ty (meta.Array count item) around at (omega (arith, h)) is.0
     ∙ array_in (read (d - 1) from) from name ty count item around at
-    ∙ ap (as_read field.List) (sym (items_numbers (d - 1) from i item around count [] (next_multiple_of at (align_at from.table item)) (omega (arith, h)) is.1))
+    ∙ ap (as_read (field.List item)) (sym (items_numbers (d - 1) from i item around count [] (next_multiple_of at (align_at from.table item)) (omega (arith, h)) is.1))

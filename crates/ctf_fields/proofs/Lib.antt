@@ -1,3 +1,4 @@
+pub mod Chosen
 pub mod Integers
 pub mod Nearest
 pub mod Places

@@ -1,10 +1,17 @@
--- The nearest field of a name.
+-- Fields by their names, and the nearest of a name.
 use Rattle.std.proofs.Common.{◌≡◌, ◌∙◌, ◌++◌, List, [], ◌∷◌, Option, Some, None, Bool, true, false, if◌then◌else◌, ℕ, ◌<◌, ◌+◌, ◌-◌, length, take, get_or, ap, refl, sym, arith}
 use Rattle.std.proofs.lemmas.List.{take_more}
+use Rattle.std.specs.Cmp.Lexicographic.{bytes_decides}
+use Rattle.type_table.specs.Names.{bare}
+use Rattle.type_table.specs.Table.{name_at}
 use Rattle.type_table.specs.Types.{Text}
 use Rattle.ctf_fields.specs.Fields.{nearest, or_else, same}
 use Rattle.ctf_fields.specs.declared.field.Field.{Field}
 use Rattle.ctf_fields.specs.declared.field.Member.{Member}
+
+-- a name counts as itself
+pub one_name : (names : List Text) (a b : ℕ) → a ≡ b → same names a b ≡ true
+one_name names a b e = ap (λ n. same names a n) (sym e) ∙ (bytes_decides (bare (name_at names a)) (bare (name_at names a))).1 refl
 
 or_by : (b : Bool) (f : Field) (o p : Option Field) → or_else (if b then Some f else o) p ≡ (if b then Some f else or_else o p)
 or_by true f o p = refl

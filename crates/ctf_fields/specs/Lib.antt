@@ -3,3 +3,4 @@ pub mod Fields
 pub mod Leaves
 pub mod Named
 pub mod Reading
+pub mod Values

@@ -130,7 +130,7 @@ align_at t ty = if nat_lt ty (length t.types) then alignment (tree t ty) else 8
 
 -- a list is aligned as its items are, also where it has none
 abbrev pub read_list : Inner → Table → ℕ → ℕ → List Around → ℕ → Reads Field
-read_list inner t count ty around at = as_read field.List (read_items inner ty around count [] (next_multiple_of at (align_at t ty)))
+read_list inner t count ty around at = as_read (field.List ty) (read_items inner ty around count [] (next_multiple_of at (align_at t ty)))
 
 -- an array of integers: the integer, how many, and the place of their type
 abbrev pub array_by : Table → Option TypeMeta → Option (Integer × ℕ × ℕ)

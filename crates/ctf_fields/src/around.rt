@@ -1,5 +1,5 @@
 //! What a tag or a length may lead to: the scopes that were read, and the structures that are being read.
-ghost use Rattle.std.specs.Prelude.{◌≡◌, reverse};
+ghost use Rattle.std.specs.Prelude.{◌≡◌, [], reverse};
 ghost use Rattle.ctf_fields.specs.Fields.{fields_of, outer, scope_field};
 ghost use Rattle.std.specs.Option.{option_copied};
 
@@ -40,6 +40,13 @@ impl Scopes {
 pub struct Around {
     pub name: Option<u32>,
     pub fields: Items<Member>,
+}
+
+// Ends all structures.
+pub fn clear(around: &mut Items<Around>)
+    ensures { around.new ≡ [] }
+{
+    while around.pop().is_some() {}
 }
 
 // Ends the innermost structure, with the fields that it has.

@@ -3,8 +3,9 @@ ghost use Rattle.std.specs.Prelude.{◌≡◌, slice_get};
 ghost use Rattle.std.specs.Option.{option_copied};
 ghost use Rattle.ctf_fields.specs.Choice.{by_label, by_labels, chosen, first_named, labels_in};
 
+use crate::names::is_same;
 use crate::source::Source;
-use type_table::{FieldMeta, LabelMeta, Table, TypeMeta, is_same_name};
+use type_table::{FieldMeta, LabelMeta, Table, TypeMeta};
 
 /// The field of a variant that the tag chooses, a number with the place of its type.
 pub fn chosen(
@@ -54,9 +55,8 @@ fn by_label(table: &Table, value: i128, label: LabelMeta, fields: &[FieldMeta]) 
 fn first_named(table: &Table, name: u32, fields: &[FieldMeta]) -> Option<FieldMeta>
     ensures { result ≡ first_named table.now.names name fields.now }
 {
-    let wanted = table.name(name);
     for field in fields {
-        if is_same_name(wanted, table.name(field.name)) {
+        if is_same(table, name, field.name) {
             return Some(*field);
         }
     }

@@ -13,8 +13,8 @@ pub enum Field {
     Struct(Items<Member>),
     /// The field of a variant that was chosen.
     Choice { name: u32, field: Boxed<Field> },
-    /// An array or a sequence.
-    List(Items<Field>),
+    /// An array or a sequence. `item` is the type of its items.
+    List { item: u32, items: Items<Field> },
 }
 
 /// A field of a structure.

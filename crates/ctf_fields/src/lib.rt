@@ -2,25 +2,32 @@
 #![tactic(auto)]
 
 mod around;
+mod both;
 mod choice;
 mod error;
 mod field;
 mod leaves;
 mod named;
+mod names;
 mod numbers;
 mod raw;
 mod read;
+mod scratch;
 mod source;
 mod span;
 mod types;
+mod values;
 mod ways;
 
 pub use around::Scopes;
+pub use both::{Both, last_and_first};
 pub use error::FieldError;
 pub use field::{Field, Member};
 pub use leaves::{read_integer, read_text};
 pub use named::{first_named, last_named};
 pub use raw::RawEvent;
-pub use read::read_type;
+pub use read::{read_type, read_type_within};
+pub use scratch::Scratch;
 pub use span::BitSpan;
 pub use types::integer_type;
+pub use values::{below, below_64, number_named, number_of, value_named};

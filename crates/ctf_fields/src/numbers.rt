@@ -75,7 +75,7 @@ fn read_array(
     let place = aligned(at, source.align_at(item));
     let mut items = room_for(alloc, count.min(source.bits_left(place)))?;
     let end = add_numbers(source, integer, count, item, place, &mut items)?;
-    Ok((Field::List(items), end))
+    Ok((Field::List { item, items }, end))
 }
 
 /// The first place from here that is aligned so.

@@ -6,11 +6,12 @@ ghost use Rattle.ctf_fields.specs.Leaves.{IsSpan};
 ghost use Rattle.ctf_fields.specs.Reading.{Gives, GivesWith, length_of, number_at, read, read_by, read_choice, read_item, read_items, read_list, read_member, read_members, read_struct, scope_read};
 ghost use Rattle.type_table.specs.Table.{IsSound};
 
-use crate::around::{Around, Scopes, take_fields};
+use crate::around::{Around, Scopes, clear, take_fields};
 use crate::choice::chosen;
 use crate::error::FieldError;
 use crate::field::{Field, Member};
 use crate::numbers::{add_array_member, add_number_member, add_numbers, aligned, room_for};
+use crate::scratch::Scratch;
 use crate::source::Source;
 use crate::span::BitSpan;
 use crate::types::integer_of;
@@ -40,9 +41,28 @@ pub fn read_type(
     ensures gives { Gives (scope_read (record { table = meta.now.table; bytes = bits.entry.bytes.now; end = bits.entry.end; scopes = scopes.now }) ty at) result }
     ensures forward { IfOk result (λ r. (at ≤ r.1) × (r.1 ≤ 2 ^ 63)) }
 {
+    let mut scratch = Scratch::new(alloc);
+    read_type_within(alloc, meta, ty, bits, at, scopes, &mut scratch)
+}
+
+/// The same, with memory that is used again from one field to the next.
+pub fn read_type_within(
+    alloc: Global,
+    meta: &TraceMeta,
+    ty: u32,
+    bits: BitSpan<'_>,
+    at: u64,
+    scopes: &Scopes,
+    scratch: &mut Scratch,
+) -> Result<(Field, u64), FieldError>
+    requires span { IsSpan bits.bytes.now bits.end }
+    requires at { at ≤ 2 ^ 63 }
+    ensures gives { Gives (scope_read (record { table = meta.now.table; bytes = bits.entry.bytes.now; end = bits.entry.end; scopes = scopes.now }) ty at) result }
+    ensures forward { IfOk result (λ r. (at ≤ r.1) × (r.1 ≤ 2 ^ 63)) }
+{
     let source = Source::new(meta.table(), bits, scopes);
-    let mut around = Items::new(alloc);
-    read(alloc, &source, &mut around, MAX_DEPTH, None, ty, at)
+    clear(&mut scratch.around);
+    read(alloc, &source, scratch, MAX_DEPTH, None, ty, at)
 }
 
 // The type at a place, for a field of this name of the structure around it.
@@ -51,16 +71,16 @@ pub fn read_type(
 fn read(
     alloc: Global,
     source: &Source<'_>,
-    around: &mut Items<Around>,
+    scratch: &mut Scratch,
     depth: u32,
     name: Option<u32>,
     ty: u32,
     at: u64,
 ) -> Result<(Field, u64), FieldError>
     requires { at ≤ 2 ^ 63 }
-    ensures gives { Gives (read depth source.now name ty (reverse around.old) at) result }
+    ensures gives { Gives (read depth source.now name ty (reverse scratch.old.around) at) result }
     ensures forward { IfOk result (λ r. (at ≤ r.1) × (r.1 ≤ 2 ^ 63)) }
-    ensures stays { OnOk result (reverse around.new ≡ reverse around.old) }
+    ensures stays { OnOk result (reverse scratch.new.around ≡ reverse scratch.old.around) }
 {
     if depth == 0 {
         return Err(FieldError::ShortContent);
@@ -68,7 +88,7 @@ fn read(
     let Some(meta) = source.type_at(ty) else {
         return Err(FieldError::ShortContent);
     };
-    read_by(alloc, source, around, depth - 1, name, ty, meta, at)
+    read_by(alloc, source, scratch, depth - 1, name, ty, meta, at)
 }
 
 #[cycle(read)]
@@ -76,7 +96,7 @@ fn read(
 fn read_by(
     alloc: Global,
     source: &Source<'_>,
-    around: &mut Items<Around>,
+    scratch: &mut Scratch,
     depth: u32,
     name: Option<u32>,
     ty: u32,
@@ -85,9 +105,9 @@ fn read_by(
 ) -> Result<(Field, u64), FieldError>
     requires at { at ≤ 2 ^ 63 }
     requires sound { IsSound meta.now }
-    ensures gives { Gives (read_by (read depth source.now) source.now name ty (Some meta.now) (reverse around.old) at) result }
+    ensures gives { Gives (read_by (read depth source.now) source.now name ty (Some meta.now) (reverse scratch.old.around) at) result }
     ensures forward { IfOk result (λ r. (at ≤ r.1) × (r.1 ≤ 2 ^ 63)) }
-    ensures stays { OnOk result (reverse around.new ≡ reverse around.old) }
+    ensures stays { OnOk result (reverse scratch.new.around ≡ reverse scratch.old.around) }
 {
     match meta {
         TypeMeta::Integer { .. } => source.read_number(ty, integer_of(meta), at),
@@ -97,7 +117,7 @@ fn read_by(
             read_struct(
                 alloc,
                 source,
-                around,
+                scratch,
                 depth,
                 name,
                 *align,
@@ -108,19 +128,19 @@ fn read_by(
         TypeMeta::Variant { tag, fields } => {
             let field = chosen(
                 source,
-                source.number_at(around.as_slice(), tag),
+                source.number_at(scratch.around.as_slice(), tag),
                 fields.as_slice(),
             );
-            read_choice(alloc, source, around, depth, field, at)
+            read_choice(alloc, source, scratch, depth, field, at)
         }
         TypeMeta::Array { length, item } => {
-            read_list(alloc, source, around, depth, *length, *item, at)
+            read_list(alloc, source, scratch, depth, *length, *item, at)
         }
         TypeMeta::Sequence { length, item } => {
-            let Some(count) = length_of(source.number_at(around.as_slice(), length)) else {
+            let Some(count) = length_of(source.number_at(scratch.around.as_slice(), length)) else {
                 return Err(FieldError::TooLong);
             };
-            read_list(alloc, source, around, depth, count, *item, at)
+            read_list(alloc, source, scratch, depth, count, *item, at)
         }
     }
 }
@@ -141,7 +161,7 @@ fn length_of(number: Option<(i128, u32)>) -> Option<u64>
 fn read_struct(
     alloc: Global,
     source: &Source<'_>,
-    around: &mut Items<Around>,
+    scratch: &mut Scratch,
     depth: u32,
     name: Option<u32>,
     align: u32,
@@ -150,16 +170,16 @@ fn read_struct(
 ) -> Result<(Field, u64), FieldError>
     requires at { at ≤ 2 ^ 63 }
     requires aligns { (1 ≤ align) × (65536 % align ≡ 0) }
-    ensures gives { Gives (read_struct (read depth source.now) name align fields.now (reverse around.old) at) result }
+    ensures gives { Gives (read_struct (read depth source.now) name align fields.now (reverse scratch.old.around) at) result }
     ensures forward { IfOk result (λ r. (at ≤ r.1) × (r.1 ≤ 2 ^ 63)) }
-    ensures stays { OnOk result (reverse around.new ≡ reverse around.old) }
+    ensures stays { OnOk result (reverse scratch.new.around ≡ reverse scratch.old.around) }
 {
     let place = aligned(at, align);
     let mut inner = Around {
         name,
-        fields: room_for(alloc, fields.len() as u64)?,
+        fields: scratch.list_for(alloc, fields.len() as u64)?,
     };
-    let end = read_members(alloc, source, around, &mut inner, depth, fields, place)?;
+    let end = read_members(alloc, source, scratch, &mut inner, depth, fields, place)?;
     Ok((Field::Struct(inner.fields), end))
 }
 
@@ -168,20 +188,20 @@ fn read_struct(
 fn read_members(
     alloc: Global,
     source: &Source<'_>,
-    around: &mut Items<Around>,
+    scratch: &mut Scratch,
     inner: &mut Around,
     depth: u32,
     fields: &[FieldMeta],
     at: u64,
 ) -> Result<u64, FieldError>
     requires { at ≤ 2 ^ 63 }
-    ensures gives { GivesWith (read_members (read depth source.now) fields.now (inner.old ∷ reverse around.old) at) (inner.new ∷ reverse around.new) result }
+    ensures gives { GivesWith (read_members (read depth source.now) fields.now (inner.old ∷ reverse scratch.old.around) at) (inner.new ∷ reverse scratch.new.around) result }
     ensures forward { IfOk result (λ end. (at ≤ end) × (end ≤ 2 ^ 63)) }
-    ensures stays { OnOk result (reverse around.new ≡ reverse around.old) }
+    ensures stays { OnOk result (reverse scratch.new.around ≡ reverse scratch.old.around) }
 {
     let mut place = at;
     for field in fields {
-        place = read_member(alloc, source, around, inner, depth, *field, place)?;
+        place = read_member(alloc, source, scratch, inner, depth, *field, place)?;
     }
     Ok(place)
 }
@@ -191,16 +211,16 @@ fn read_members(
 fn read_member(
     alloc: Global,
     source: &Source<'_>,
-    around: &mut Items<Around>,
+    scratch: &mut Scratch,
     inner: &mut Around,
     depth: u32,
     meta: FieldMeta,
     at: u64,
 ) -> Result<u64, FieldError>
     requires { at ≤ 2 ^ 63 }
-    ensures gives { GivesWith (read_member (read depth source.now) meta (inner.old ∷ reverse around.old) at) (inner.new ∷ reverse around.new) result }
+    ensures gives { GivesWith (read_member (read depth source.now) meta (inner.old ∷ reverse scratch.old.around) at) (inner.new ∷ reverse scratch.new.around) result }
     ensures forward { IfOk result (λ end. (at ≤ end) × (end ≤ 2 ^ 63)) }
-    ensures stays { OnOk result (reverse around.new ≡ reverse around.old) }
+    ensures stays { OnOk result (reverse scratch.new.around ≡ reverse scratch.old.around) }
 {
     if depth > 0 {
         if let Some(integer) = source.number_type(meta.ty) {
@@ -212,7 +232,7 @@ fn read_member(
             return add_array_member(alloc, source, inner, array, meta, at);
         }
     }
-    read_nested(alloc, source, around, inner, depth, meta, at)
+    read_nested(alloc, source, scratch, inner, depth, meta, at)
 }
 
 #[cycle(read)]
@@ -220,22 +240,22 @@ fn read_member(
 fn read_nested(
     alloc: Global,
     source: &Source<'_>,
-    around: &mut Items<Around>,
+    scratch: &mut Scratch,
     inner: &mut Around,
     depth: u32,
     meta: FieldMeta,
     at: u64,
 ) -> Result<u64, FieldError>
     requires { at ≤ 2 ^ 63 }
-    ensures gives { GivesWith (read_member (read depth source.now) meta (inner.old ∷ reverse around.old) at) (inner.new ∷ reverse around.new) result }
+    ensures gives { GivesWith (read_member (read depth source.now) meta (inner.old ∷ reverse scratch.old.around) at) (inner.new ∷ reverse scratch.new.around) result }
     ensures forward { IfOk result (λ end. (at ≤ end) × (end ≤ 2 ^ 63)) }
-    ensures stays { OnOk result (reverse around.new ≡ reverse around.old) }
+    ensures stays { OnOk result (reverse scratch.new.around ≡ reverse scratch.old.around) }
 {
     let name = inner.name;
     let fields = mem::replace(&mut inner.fields, Items::new(alloc));
-    around.push(Around { name, fields })?;
-    let (field, end) = read(alloc, source, around, depth, Some(meta.name), meta.ty, at)?;
-    inner.fields = take_fields(alloc, around);
+    scratch.around.push(Around { name, fields })?;
+    let (field, end) = read(alloc, source, scratch, depth, Some(meta.name), meta.ty, at)?;
+    inner.fields = take_fields(alloc, &mut scratch.around);
     inner.fields.push(Member {
         name: meta.name,
         field,
@@ -248,20 +268,20 @@ fn read_nested(
 fn read_choice(
     alloc: Global,
     source: &Source<'_>,
-    around: &mut Items<Around>,
+    scratch: &mut Scratch,
     depth: u32,
     chosen: Option<FieldMeta>,
     at: u64,
 ) -> Result<(Field, u64), FieldError>
     requires { at ≤ 2 ^ 63 }
-    ensures gives { Gives (read_choice (read depth source.now) chosen (reverse around.old) at) result }
+    ensures gives { Gives (read_choice (read depth source.now) chosen (reverse scratch.old.around) at) result }
     ensures forward { IfOk result (λ r. (at ≤ r.1) × (r.1 ≤ 2 ^ 63)) }
-    ensures stays { OnOk result (reverse around.new ≡ reverse around.old) }
+    ensures stays { OnOk result (reverse scratch.new.around ≡ reverse scratch.old.around) }
 {
     let Some(meta) = chosen else {
         return Err(FieldError::NoVariant);
     };
-    let (field, end) = read(alloc, source, around, depth, None, meta.ty, at)?;
+    let (field, end) = read(alloc, source, scratch, depth, None, meta.ty, at)?;
     let field = Boxed::new(alloc, field)?;
     Ok((
         Field::Choice {
@@ -277,20 +297,20 @@ fn read_choice(
 fn read_list(
     alloc: Global,
     source: &Source<'_>,
-    around: &mut Items<Around>,
+    scratch: &mut Scratch,
     depth: u32,
     count: u64,
     item: u32,
     at: u64,
 ) -> Result<(Field, u64), FieldError>
     requires { at ≤ 2 ^ 63 }
-    ensures gives { Gives (read_list (read depth source.now) source.now.table count item (reverse around.old) at) result }
+    ensures gives { Gives (read_list (read depth source.now) source.now.table count item (reverse scratch.old.around) at) result }
     ensures forward { IfOk result (λ r. (at ≤ r.1) × (r.1 ≤ 2 ^ 63)) }
-    ensures stays { OnOk result (reverse around.new ≡ reverse around.old) }
+    ensures stays { OnOk result (reverse scratch.new.around ≡ reverse scratch.old.around) }
 {
     let place = aligned(at, source.align_at(item));
-    let (items, end) = read_items(alloc, source, around, depth, count, item, place)?;
-    Ok((Field::List(items), end))
+    let (items, end) = read_items(alloc, source, scratch, depth, count, item, place)?;
+    Ok((Field::List { item, items }, end))
 }
 
 // So many items, one behind the other. Each takes a bit at least, so no more room is taken than there are bits.
@@ -298,19 +318,19 @@ fn read_list(
 fn read_items(
     alloc: Global,
     source: &Source<'_>,
-    around: &mut Items<Around>,
+    scratch: &mut Scratch,
     depth: u32,
     count: u64,
     item: u32,
     at: u64,
 ) -> Result<(Items<Field>, u64), FieldError>
     requires { at ≤ 2 ^ 63 }
-    ensures gives { Gives (read_items (read depth source.now) item (reverse around.old) count [] at) result }
+    ensures gives { Gives (read_items (read depth source.now) item (reverse scratch.old.around) count [] at) result }
     ensures forward { IfOk result (λ r. (at ≤ r.1) × (r.1 ≤ 2 ^ 63)) }
-    ensures stays { OnOk result (reverse around.new ≡ reverse around.old) }
+    ensures stays { OnOk result (reverse scratch.new.around ≡ reverse scratch.old.around) }
 {
     let mut items = room_for(alloc, count.min(source.bits_left(at)))?;
-    let end = add_items(alloc, source, around, depth, count, item, at, &mut items)?;
+    let end = add_items(alloc, source, scratch, depth, count, item, at, &mut items)?;
     Ok((items, end))
 }
 
@@ -319,7 +339,7 @@ fn read_items(
 fn add_items(
     alloc: Global,
     source: &Source<'_>,
-    around: &mut Items<Around>,
+    scratch: &mut Scratch,
     depth: u32,
     count: u64,
     item: u32,
@@ -327,23 +347,23 @@ fn add_items(
     items: &mut Items<Field>,
 ) -> Result<u64, FieldError>
     requires { at ≤ 2 ^ 63 }
-    ensures gives { GivesWith (read_items (read depth source.now) item (reverse around.old) count items.old at) items.new result }
+    ensures gives { GivesWith (read_items (read depth source.now) item (reverse scratch.old.around) count items.old at) items.new result }
     ensures forward { IfOk result (λ end. (at ≤ end) × (end ≤ 2 ^ 63)) }
-    ensures stays { OnOk result (reverse around.new ≡ reverse around.old) }
+    ensures stays { OnOk result (reverse scratch.new.around ≡ reverse scratch.old.around) }
 {
     if depth > 0 {
         if let Some(integer) = source.number_type(item) {
             return add_numbers(source, integer, count, item, at, items);
         }
     }
-    add_each(alloc, source, around, depth, count, item, at, items)
+    add_each(alloc, source, scratch, depth, count, item, at, items)
 }
 
 #[cycle(read)]
 fn add_each(
     alloc: Global,
     source: &Source<'_>,
-    around: &mut Items<Around>,
+    scratch: &mut Scratch,
     depth: u32,
     count: u64,
     item: u32,
@@ -351,13 +371,13 @@ fn add_each(
     items: &mut Items<Field>,
 ) -> Result<u64, FieldError>
     requires { at ≤ 2 ^ 63 }
-    ensures gives { GivesWith (read_items (read depth source.now) item (reverse around.old) count items.old at) items.new result }
+    ensures gives { GivesWith (read_items (read depth source.now) item (reverse scratch.old.around) count items.old at) items.new result }
     ensures forward { IfOk result (λ end. (at ≤ end) × (end ≤ 2 ^ 63)) }
-    ensures stays { OnOk result (reverse around.new ≡ reverse around.old) }
+    ensures stays { OnOk result (reverse scratch.new.around ≡ reverse scratch.old.around) }
 {
     let mut place = at;
     for _index in 0..count {
-        place = add_item(alloc, source, around, depth, item, place, items)?;
+        place = add_item(alloc, source, scratch, depth, item, place, items)?;
     }
     Ok(place)
 }
@@ -366,18 +386,18 @@ fn add_each(
 fn add_item(
     alloc: Global,
     source: &Source<'_>,
-    around: &mut Items<Around>,
+    scratch: &mut Scratch,
     depth: u32,
     item: u32,
     at: u64,
     items: &mut Items<Field>,
 ) -> Result<u64, FieldError>
     requires { at ≤ 2 ^ 63 }
-    ensures gives { GivesWith (read_item (read depth source.now) item (reverse around.old) items.old at) items.new result }
+    ensures gives { GivesWith (read_item (read depth source.now) item (reverse scratch.old.around) items.old at) items.new result }
     ensures forward { IfOk result (λ end. (at ≤ end) × (end ≤ 2 ^ 63)) }
-    ensures stays { OnOk result (reverse around.new ≡ reverse around.old) }
+    ensures stays { OnOk result (reverse scratch.new.around ≡ reverse scratch.old.around) }
 {
-    let (field, end) = read(alloc, source, around, depth, None, item, at)?;
+    let (field, end) = read(alloc, source, scratch, depth, None, item, at)?;
     items.push(field)?;
     Ok(end)
 }

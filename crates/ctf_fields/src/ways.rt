@@ -5,7 +5,8 @@ ghost use Rattle.ctf_fields.specs.Fields.{field_of, follow, from_here, from_insi
 
 use crate::around::{Around, Scopes};
 use crate::field::{Field, Member};
-use type_table::{Reference, Table, is_same_name};
+use crate::names::is_same;
+use type_table::{Reference, Table};
 
 /// The number that a way leads to, with the place of its type, from the structures that are being read, the
 /// innermost last.
@@ -88,7 +89,7 @@ fn is_entered(table: &Table, name: u32, inner: &[Around]) -> bool
 {
     match inner {
         [next, ..] => match next.name {
-            Some(inner) => is_same_name(table.name(name), table.name(inner)),
+            Some(inner) => is_same(table, name, inner),
             None => false,
         },
         [] => false,
@@ -120,10 +121,9 @@ fn member<'a>(table: &Table, name: u32, field: Option<&'a Field>) -> Option<&'a 
 fn nearest<'a>(table: &Table, name: u32, members: &'a [Member]) -> Option<&'a Field>
     ensures { option_copied result ≡ nearest table.now.names name members.now }
 {
-    let wanted = table.name(name);
     for behind in 0..members.len() {
         let member = &members[members.len() - 1 - behind];
-        if is_same_name(wanted, table.name(member.name)) {
+        if is_same(table, name, member.name) {
             return Some(&member.field);
         }
     }

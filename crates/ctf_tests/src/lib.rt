@@ -26,6 +26,8 @@ mod stream_cases;
 #[cfg(test)]
 mod stream_fields;
 #[cfg(test)]
+mod stream_kinds;
+#[cfg(test)]
 mod stream_packets;
 #[cfg(test)]
 mod stream_times;

@@ -154,7 +154,7 @@ fn write_field(meta: &TraceMeta, field: &Field, out: &mut Vec<u8>) -> io::Result
             out.write_all(b":")?;
             write_field(meta, field.get(), out)
         }
-        Field::List(items) => write_items(meta, items.as_slice(), out),
+        Field::List { items, .. } => write_items(meta, items.as_slice(), out),
     }
 }
 

@@ -13,8 +13,9 @@ use Rattle.trace_types.proofs.Decimals.{below_wide, decimal_high}
 use Rattle.trace_types.proofs.Everywhere.{all_weaker, all_both}
 use Rattle.trace_types.specs.declared.event.Merged.{Merged}
 use Rattle.trace_types.specs.declared.event.KernelEvent.{KernelEvent}
-use Rattle.trace_types.specs.declared.event.KernelEvent.TheVariants.{Switch, Wakeup, WakeupNew, Waking, Fork, Exit, Free, Migrate, IrqIn, IrqOut, SoftIn, SoftOut, Process}
-use Rattle.event_list.specs.Lines.{kind_words, woken_words, words_of, IsKind, IsWoken, IsEvent}
+use Rattle.trace_types.specs.declared.event.KernelEvent.TheVariants.{Switch, Wakeup, WakeupNew, Waking, Fork, Exit, Free, Migrate, IrqIn, IrqOut, SoftIn, SoftOut, Process, Send, Receive, DiskIssue, DiskDone, Lost}
+use Rattle.trace_types.specs.declared.segment.SegKey.{SegKey}
+use Rattle.event_list.specs.Lines.{kind_words, woken_words, segment_words, request_words, IsSegKey, IsRequested, words_of, IsKind, IsWoken, IsEvent}
 
 -- every byte of the word is past the space
 abbrev pub IsWord : List ℕ → Type 0
@@ -68,6 +69,37 @@ small n h = number n (2 ^ 31) h (omega arith)
 woken_are_words : (tid : ℕ) (comm : List ℕ) (prio : ℤ) (cpu : ℕ) → IsWoken tid comm prio cpu → AreWords (woken_words tid comm prio cpu)
 woken_are_words tid comm prio cpu h = (small tid h.0, (byte_text_word comm, (signed_word prio (mag_32 prio h.2), (small cpu h.3, tt))))
 
+pub wide : (n : ℕ) → n < 2 ^ 64 → n < 2 ^ 128
+wide n h = omega (arith, h)
+
+segment_are_words : (key : SegKey) → IsSegKey key → AreWords (segment_words key)
+segment_are_words key h = (
+  decimal_word key.saddr h.0,
+  (
+    decimal_word key.daddr h.1,
+    (
+      number key.source_port (2 ^ 16) h.2 (omega arith),
+      (
+        number key.dest_port (2 ^ 16) h.3 (omega arith),
+        (
+          number key.seq (2 ^ 32) h.4 (omega arith),
+          (
+            number key.ack_seq (2 ^ 32) h.5 (omega arith),
+            (number key.flags (2 ^ 16) h.6 (omega arith), tt),
+          ),
+        ),
+      ),
+    ),
+  ),
+)
+
+request_are_words : (sector dev count : ℕ) → IsRequested sector dev count → AreWords (request_words sector dev count)
+request_are_words sector dev count h = (number dev (2 ^ 32) h.1 (omega arith), (decimal_word sector (wide sector h.0), (number count (2 ^ 32) h.2 (omega arith), tt)))
+
+one_word : (gap : Bool) → IsWord (decimal (if gap then 1 else 0))
+one_word true = number 1 2 (omega arith) (omega arith)
+one_word false = number 0 2 (omega arith) (omega arith)
+
 kind_are_words : (k : KernelEvent) → IsKind k → AreWords (kind_words k)
 kind_are_words (Switch s pt nt pp np pc nc) h =
     let prev : IsWord (decimal pt) = number pt (2 ^ 31) h.0 (omega arith) in
@@ -85,6 +117,12 @@ kind_are_words (IrqOut irq) h = (search rules, (small irq h, tt))
 kind_are_words (SoftIn vec) h = (search rules, (small vec h, tt))
 kind_are_words (SoftOut vec) h = (search rules, (small vec h, tt))
 kind_are_words (Process tid ppid name status) h = (search rules, (small tid h.0, (small ppid h.1, (byte_text_word name, (small status h.3, tt)))))
+kind_are_words (Send key) h = (search rules, segment_are_words key h)
+kind_are_words (Receive key) h = (search rules, segment_are_words key h)
+kind_are_words (DiskIssue sector dev count) h = (search rules, request_are_words sector dev count h)
+kind_are_words (DiskDone sector dev count) h = (search rules, request_are_words sector dev count h)
+kind_are_words (Lost events gap) h = (search rules, (decimal_word events (wide events h), (one_word gap, tt)))
+kind_are_words k h = absurd h
 
 pub are_words : (m : Merged) → IsEvent m → AreWords (words_of m)
 are_words m h =

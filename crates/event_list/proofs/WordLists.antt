@@ -10,8 +10,9 @@ use Rattle.trace_types.specs.declared.event.KernelEvent.TheVariants.{Switch}
 use Rattle.event_list.specs.declared.thread.NamedThread.{NamedThread}
 use Rattle.event_list.specs.Threads.{IsThread}
 use Rattle.event_list.specs.declared.kind_word.KindWord.TheVariants as word_kind
-use Rattle.event_list.specs.Kinds.{IsWakeup, IsOf}
-use Rattle.event_list.specs.Lines.{IsLine}
+use Rattle.trace_types.specs.declared.segment.SegKey.{SegKey}
+use Rattle.event_list.specs.Kinds.{IsWakeup, IsSegment, IsOf}
+use Rattle.event_list.specs.Lines.{IsLine, IsSegKey}
 
 -- the word at a place, none past the end
 abbrev pub word : List (Bor (List ℕ)) → ℕ → List ℕ
@@ -56,6 +57,17 @@ switch_found ws prev next state low high p s fits n = (
   },
   refl,
 )
+
+-- the seven words of a segment
+pub segment_found : (ws : List (Bor (List ℕ))) (key : SegKey) → 7 ≤ length ws → length ws < 8 → IsNumber (word ws 0) key.saddr → IsNumber (word ws 1) key.daddr → IsNumber (word ws 2) key.source_port → IsNumber (word ws 3) key.dest_port → IsNumber (word ws 4) key.seq → IsNumber (word ws 5) key.ack_seq → IsNumber (word ws 6) key.flags
+    → IsSegKey key → IsSegment (texts ws) key
+segment_found ws key low high a b c d e f g fits = record { spelled = rw (seven ws low high, a, b, c, d, e, f, g) refl; fit = fits }
+
+pub no_dest_port : (ws : List (Bor (List ℕ))) → ((n : ℕ) → n < 2 ^ 16 → ¬ (IsNumber (word ws 3) n)) → (key : SegKey) → ¬ (IsSegment (texts ws) key)
+no_dest_port ws none key is = none key.dest_port is.fit.3 (word_is ws _ 3 is.spelled)
+
+pub no_flags : (ws : List (Bor (List ℕ))) → ((n : ℕ) → n < 2 ^ 16 → ¬ (IsNumber (word ws 6) n)) → (key : SegKey) → ¬ (IsSegment (texts ws) key)
+no_flags ws none key is = none key.flags is.fit.6 (word_is ws _ 6 is.spelled)
 
 -- where the words of a thread are none, the line is of no switch
 pub no_prev : (ws : List (Bor (List ℕ))) → ((t : NamedThread) → ¬ (IsThread (word ws 0) (word ws 1) (word ws 2) t)) → (k : KernelEvent) → ¬ (IsOf word_kind.Switch (texts ws) k)

@@ -1,13 +1,14 @@
 -- The words of each kind of event, as its name and its fields.
-use Rattle.std.specs.Prelude.{◌≡◌, ℕ, ℤ, ◌^◌, ◌<◌, List, [], ◌∷◌, codes}
+use Rattle.std.specs.Prelude.{◌≡◌, Bool, ℕ, ℤ, ◌^◌, ◌<◌, List, [], ◌∷◌, codes}
 use Rattle.std.specs.Fmt.{decimal}
 use Rattle.trace_types.specs.ByteTexts.{byte_text}
 use Rattle.trace_types.specs.Comms.{IsName}
 use Rattle.trace_types.specs.declared.event.KernelEvent.{KernelEvent}
 use Rattle.trace_types.specs.declared.event.KernelEvent.TheVariants as kind
 use Rattle.event_list.specs.declared.kind_word.KindWord.{KindWord}
-use Rattle.event_list.specs.declared.kind_word.KindWord.TheVariants.{Switch, Wakeup, WakeupNew, Waking, Fork, Exit, Free, Migrate, IrqIn, IrqOut, SoftIn, SoftOut, Process}
-use Rattle.event_list.specs.Lines.{switch_words, woken_words, IsSwitched, IsWoken}
+use Rattle.event_list.specs.declared.kind_word.KindWord.TheVariants.{Switch, Wakeup, WakeupNew, Waking, Fork, Exit, Free, Migrate, IrqIn, IrqOut, SoftIn, SoftOut, Process, Send, Receive, DiskIssue, DiskDone, Lost}
+use Rattle.trace_types.specs.declared.segment.SegKey.{SegKey}
+use Rattle.event_list.specs.Lines.{switch_words, woken_words, segment_words, request_words, loss_words, IsSwitched, IsWoken, IsSegKey, IsRequested}
 
 abbrev pub spelling : KindWord → List ℕ
 spelling Switch = codes "switch"
@@ -23,6 +24,11 @@ spelling IrqOut = codes "irq-out"
 spelling SoftIn = codes "soft-in"
 spelling SoftOut = codes "soft-out"
 spelling Process = codes "process"
+spelling Send = codes "send"
+spelling Receive = codes "receive"
+spelling DiskIssue = codes "disk-issue"
+spelling DiskDone = codes "disk-done"
+spelling Lost = codes "lost"
 
 -- the one field is this number
 pub record IsOne (fields : List (List ℕ)) (n : ℕ) : Type 0 where
@@ -54,6 +60,21 @@ pub record IsProcess (fields : List (List ℕ)) (tid ppid : ℕ) (name : List �
   pub spelled : fields ≡ decimal tid ∷ decimal ppid ∷ byte_text name ∷ decimal status ∷ []
   pub fit : (tid < 2 ^ 31) × (ppid < 2 ^ 31) × IsName name × (status < 2 ^ 31)
 
+-- the fields are those of a segment
+pub record IsSegment (fields : List (List ℕ)) (key : SegKey) : Type 0 where
+  pub spelled : fields ≡ segment_words key
+  pub fit : IsSegKey key
+
+-- the fields are those of a request of a disk
+pub record IsRequest (fields : List (List ℕ)) (sector dev count : ℕ) : Type 0 where
+  pub spelled : fields ≡ request_words sector dev count
+  pub fit : IsRequested sector dev count
+
+-- the fields are those of a mark of lost events
+pub record IsLoss (fields : List (List ℕ)) (events : ℕ) (gap : Bool) : Type 0 where
+  pub spelled : fields ≡ loss_words events gap
+  pub fit : events < 2 ^ 64
+
 -- the fields are those of an event whose kind has this name
 abbrev pub IsOf : KindWord → List (List ℕ) → KernelEvent → Type 0
 IsOf Switch fields k = (s : ℤ) × (pt : ℕ) × (nt : ℕ) × (pp : ℤ) × (np : ℤ) × (pc : List ℕ) × (nc : List ℕ) × IsSwitch fields s pt nt pp np pc nc × (k ≡ kind.Switch s pt nt pp np pc nc)
@@ -69,3 +90,8 @@ IsOf SoftIn fields k = (n : ℕ) × IsOne fields n × (k ≡ kind.SoftIn n)
 IsOf SoftOut fields k = (n : ℕ) × IsOne fields n × (k ≡ kind.SoftOut n)
 IsOf Migrate fields k = (tid : ℕ) × (cpu : ℕ) × IsTwo fields tid cpu × (k ≡ kind.Migrate tid cpu)
 IsOf Process fields k = (tid : ℕ) × (ppid : ℕ) × (name : List ℕ) × (status : ℕ) × IsProcess fields tid ppid name status × (k ≡ kind.Process tid ppid name status)
+IsOf Send fields k = (key : SegKey) × IsSegment fields key × (k ≡ kind.Send key)
+IsOf Receive fields k = (key : SegKey) × IsSegment fields key × (k ≡ kind.Receive key)
+IsOf DiskIssue fields k = (sector : ℕ) × (dev : ℕ) × (count : ℕ) × IsRequest fields sector dev count × (k ≡ kind.DiskIssue sector dev count)
+IsOf DiskDone fields k = (sector : ℕ) × (dev : ℕ) × (count : ℕ) × IsRequest fields sector dev count × (k ≡ kind.DiskDone sector dev count)
+IsOf Lost fields k = (events : ℕ) × (gap : Bool) × IsLoss fields events gap × (k ≡ kind.Lost events gap)

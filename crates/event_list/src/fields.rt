@@ -1,6 +1,6 @@
 //! The fields of each kind of event, as words.
 ghost use Rattle.std.specs.Prelude.{◌≡◌, IfSome, IfNone, ℕ, ℤ, List, map};
-ghost use Rattle.event_list.specs.Kinds.{IsOne, IsWakeup, IsOf};
+ghost use Rattle.event_list.specs.Kinds.{IsWakeup, IsOf};
 ghost use Rattle.event_list.specs.declared.kind_word.KindWord.TheVariants.{Switch, Fork, Migrate, Process};
 ghost use Rattle.trace_types.specs.declared.event.KernelEvent.{KernelEvent};
 
@@ -100,17 +100,6 @@ pub fn read_woken(fields: &[&[u8]]) -> Option<Woken>
         prio: thread.prio,
         target_cpu,
     })
-}
-
-/// Reads a single field, a number below 2^31.
-pub fn read_one(fields: &[&[u8]]) -> Option<u32>
-    ensures found { IfSome result (λ n. IsOne (map (λ w. w.now) fields.now) n) }
-    ensures none { IfNone result ((n : ℕ) → ¬ (IsOne (map (λ w. w.now) fields.now) n)) }
-{
-    let [number] = fields else {
-        return None;
-    };
-    read_small(number)
 }
 
 /// Reads the three fields of a fork.

@@ -19,6 +19,11 @@ pub enum KindWord {
     SoftIn,
     SoftOut,
     Process,
+    Send,
+    Receive,
+    DiskIssue,
+    DiskDone,
+    Lost,
 }
 
 /// The kind of this name.
@@ -40,6 +45,11 @@ pub fn read_kind_word(word: &[u8]) -> Option<KindWord>
         b"soft-in" => KindWord::SoftIn,
         b"soft-out" => KindWord::SoftOut,
         b"process" => KindWord::Process,
+        b"send" => KindWord::Send,
+        b"receive" => KindWord::Receive,
+        b"disk-issue" => KindWord::DiskIssue,
+        b"disk-done" => KindWord::DiskDone,
+        b"lost" => KindWord::Lost,
         _ => return None,
     })
 }

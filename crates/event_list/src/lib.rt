@@ -2,10 +2,12 @@
 #![tactic(auto)]
 
 mod fields;
+mod io_fields;
 mod kind;
 mod kind_word;
 mod line;
 mod list;
+mod one;
 mod thread;
 mod trace;
 mod words;

@@ -2,10 +2,12 @@
 //!
 //! `count FILE..` prints what each metadata file declares. `time FILE..` prints the fewest
 //! nanoseconds that five runs of each step took on each file. `events METADATA FILE..` prints what the
-//! stream files of a trace hold, and `decode METADATA FILE..` how long cutting and decoding them takes.
+//! stream files of a trace hold, `decode METADATA FILE..` how long cutting and decoding them takes, and
+//! `pool METADATA FILE..` how long making the host's list of events takes, on all processors.
 #![tactic(auto)]
 
 mod counts;
+mod pool;
 mod streams;
 mod times;
 
@@ -22,6 +24,13 @@ fn main(rt: HostRuntime) -> anyhow::Result<ExitCode> {
     };
     match command.as_str() {
         "count" | "time" => each_metadata(&rt, command.as_str(), files),
+        "pool" => match files.split_first() {
+            Some((metadata, files)) => {
+                pool::print_pool_time(&rt, &rt, metadata.as_str(), files)?;
+                Ok(ExitCode::SUCCESS)
+            }
+            None => usage(&rt),
+        },
         _ => each_trace(&rt, command.as_str(), files),
     }
 }
@@ -50,6 +59,6 @@ fn each_trace(rt: &HostRuntime, command: &str, files: &[String]) -> anyhow::Resu
 }
 
 fn usage(rt: &HostRuntime) -> anyhow::Result<ExitCode> {
-    eprintln!(rt; "usage: hosttrace_bench count|time FILE.. | events|decode METADATA FILE..")?;
+    eprintln!(rt; "usage: hosttrace_bench count|time FILE.. | events|decode|pool METADATA FILE..")?;
     Ok(ExitCode::FAILURE)
 }

@@ -36,7 +36,8 @@ fn no_counts(alloc: Global, meta: &TraceMeta) -> Result<Counts, OutOfMemory> {
     })
 }
 
-fn read_meta(rt: &HostRuntime, path: &str) -> anyhow::Result<TraceMeta> {
+/// What a file of metadata declares.
+pub fn read_meta(rt: &HostRuntime, path: &str) -> anyhow::Result<TraceMeta> {
     let bytes = fs::read(rt, path)?;
     Ok(read_metadata(rt.alloc(), &bytes)?)
 }

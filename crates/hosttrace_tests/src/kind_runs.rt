@@ -1,5 +1,6 @@
 //! Events of every kind. The expected states are worked out by hand from the state rules.
 use crate::harness::run_on;
+use hosttrace::Status;
 use std::alloc::AllocGlobal;
 use std::process::Abort;
 use std::str;
@@ -148,6 +149,43 @@ fn what_changes_nothing(rt: HostRuntime) -> Result<(), Fail> {
     )
 }
 
+// Where events are lost, what ran on the processor is no longer known, and its name and place stay.
+#[test]
+fn lost_events(rt: HostRuntime) -> Result<(), Fail> {
+    let list = b"hosttrace events 1\n\
+        100 0 0 100 switch 0 swapper/0 20 0 7 bash 20\n\
+        250 0 0 250 lost 3 1\n";
+    let ran = run_on(&rt, "state --at 250 --list a.list", "a.list", list)?;
+    assert_eq!(rt; str::from_utf8(&ran.err)?, "");
+    assert_eq!(rt;
+        str::from_utf8(&ran.out)?,
+        "h0/Thread/0_0/Status status ready\n\
+        h0/Thread/0_0/Name comm swapper/0\n\
+        h0/Thread/0_0/Prio int 20\n\
+        h0/Thread/7/Name comm bash\n\
+        h0/Thread/7/Cpu int 0\n\
+        h0/Thread/7/Prio int 20\n"
+    );
+    Ok(())
+}
+
+// Segments and requests of disks change no state. The last line holds the greatest numbers.
+#[test]
+fn segments_and_requests(rt: HostRuntime) -> Result<(), Fail> {
+    let list = b"hosttrace events 1\n\
+        1 0 0 1 send 167772161 167772162 40000 80 7 0 16\n\
+        2 0 0 2 receive 167772162 167772161 80 40000 8 7 24\n\
+        3 0 0 3 disk-issue 8 100 16\n\
+        4 0 0 4 disk-done 8 100 16\n\
+        5 0 0 5 disk-done 4294967295 18446744073709551615 4294967295\n\
+        6 0 0 6 send 340282366920938463463374607431768211455 0 65535 65535 4294967295 4294967295 65535\n\
+        7 0 0 7 lost 18446744073709551615 0\n";
+    let ran = run_on(&rt, "state --at 9 --list a.list", "a.list", list)?;
+    assert_eq!(rt; ran.status, Status::Done);
+    assert!(rt; ran.out.is_empty());
+    Ok(())
+}
+
 // Refuses each of these second lines.
 #[test]
 fn fields_that_are_none(rt: HostRuntime) -> Result<(), Fail> {
@@ -170,6 +208,16 @@ fn fields_that_are_none(rt: HostRuntime) -> Result<(), Fail> {
         "soft-in %",
         "process 7 1 bash",
         "process 7 1 bash 2 2",
+        "send 1 2 3 4 5 6",
+        "send 1 2 65536 4 5 6 7",
+        "receive 340282366920938463463374607431768211456 2 3 4 5 6 7",
+        "receive 1 2 3 4 4294967296 6 7",
+        "disk-issue 4294967296 1 1",
+        "disk-done 1 18446744073709551616 1",
+        "disk-done 1 1",
+        "lost 1",
+        "lost 1 2",
+        "lost 18446744073709551616 0",
     ] {
         let list = format!(in rt.alloc(); "hosttrace events 1\n1 0 0 1 {fields}\n")?;
         let ran = run_on(

@@ -1,5 +1,5 @@
 -- What an event does to attributes: the state rules (after Trace Compass's kernel analysis; the table is this project's own).
-use Rattle.std.specs.Prelude.{ℕ, ℤ, pos, ◌==◌, ◌%◌, if◌then◌else◌, List, [], ◌∷◌, ◌++◌}
+use Rattle.std.specs.Prelude.{ℕ, ℤ, pos, ◌==◌, ◌%◌, ◌^◌, nat_lt, if◌then◌else◌, Option, Some, None, List, [], ◌∷◌, ◌++◌}
 use Rattle.std.specs.Int.{w64, cast_unsigned}
 use Rattle.trace_types.specs.declared.path.Path.{Path as AttributePath}
 use Rattle.trace_types.specs.declared.path.Path.TheVariants as path
@@ -8,10 +8,10 @@ use Rattle.trace_types.specs.declared.path.ThreadKey.TheVariants.{Idle, Tid}
 use Rattle.trace_types.specs.declared.path.CpuLeaf.TheVariants as cpu_leaf
 use Rattle.trace_types.specs.declared.path.ThreadLeaf.TheVariants as thread_leaf
 use Rattle.trace_types.specs.declared.value.Value.{Value}
-use Rattle.trace_types.specs.declared.value.Value.TheVariants.{Null, Int, Comm}
+use Rattle.trace_types.specs.declared.value.Value.TheVariants.{Null, Int, Comm, Call}
 use Rattle.trace_types.specs.declared.event.Event.{Event}
 use Rattle.trace_types.specs.declared.event.KernelEvent.{KernelEvent}
-use Rattle.trace_types.specs.declared.event.KernelEvent.TheVariants.{Switch, Wakeup, WakeupNew, Waking, Fork, Exit, Free, Migrate, IrqIn, IrqOut, SoftIn, SoftOut, Process}
+use Rattle.trace_types.specs.declared.event.KernelEvent.TheVariants.{Switch, Wakeup, WakeupNew, Waking, Fork, Exit, Free, Migrate, IrqIn, IrqOut, SoftIn, SoftOut, Process, CallIn, CallOut, Lost}
 use Rattle.trace_types.specs.Same.{same_value}
 use Rattle.kernel_provider.specs.declared.rules.Assignment.{Assignment}
 
@@ -98,6 +98,28 @@ process_assignments values host thread ppid name status =
 abbrev pub unless_idle : ℕ → List Assignment → List Assignment
 unless_idle tid given = if tid == 0 then [] else given
 
+-- the thread that runs on a processor, by the value of its Thread: a tid of 32 bits, or nothing where none is known
+abbrev pub running : Value → ℕ → Option ThreadKey
+running (Int (pos tid)) cpu = if nat_lt tid (2 ^ 32) then Some (thread_of tid cpu) else None
+running value cpu = None
+
+-- the call in which the running thread is; nothing where none is known
+abbrev pub call_assignments : Option ThreadKey → ℕ → Value → List Assignment
+call_assignments None host call = []
+call_assignments (Some thread) host call = gives (path.Thread host thread thread_leaf.Call) call ∷ []
+
+-- where events were lost, neither what ran on the processor is known any more nor what became of it
+abbrev pub forgotten_thread : Option ThreadKey → ℕ → List Assignment
+forgotten_thread None host = []
+forgotten_thread (Some thread) host = gives (path.Thread host thread thread_leaf.Status) Null ∷ gives (path.Thread host thread thread_leaf.Call) Null ∷ []
+
+abbrev pub lost_assignments : Option ThreadKey → ℕ → ℕ → List Assignment
+lost_assignments thread host cpu =
+    forgotten_thread thread host
+    ++ gives (path.Cpu host cpu cpu_leaf.Thread) Null
+    ∷ gives (path.Cpu host cpu cpu_leaf.Irq) Null
+    ∷ gives (path.Cpu host cpu cpu_leaf.Softirq) Null ∷ []
+
 -- what the events assign that neither switch nor wake
 abbrev pub other_assignments : Values → ℕ → ℕ → KernelEvent → List Assignment
 other_assignments values host cpu (Fork parent_tid child_tid child_comm) = forked_assignments host (thread_of child_tid cpu) parent_tid child_comm
@@ -109,6 +131,9 @@ other_assignments values host cpu (IrqOut irq) = gives (path.Cpu host cpu cpu_le
 other_assignments values host cpu (SoftIn vec) = gives (path.Cpu host cpu cpu_leaf.Softirq) (Int (pos vec)) ∷ []
 other_assignments values host cpu (SoftOut vec) = gives (path.Cpu host cpu cpu_leaf.Softirq) Null ∷ []
 other_assignments values host cpu (Process tid ppid name status) = unless_idle tid (process_assignments values host (Tid tid) ppid name status)
+other_assignments values host cpu (CallIn name) = call_assignments (running (values (path.Cpu host cpu cpu_leaf.Thread)) cpu) host (Call name)
+other_assignments values host cpu (CallOut name) = call_assignments (running (values (path.Cpu host cpu cpu_leaf.Thread)) cpu) host Null
+other_assignments values host cpu (Lost events gap) = lost_assignments (running (values (path.Cpu host cpu cpu_leaf.Thread)) cpu) host cpu
 other_assignments values host cpu kind = []
 
 abbrev pub kind_assignments : Values → ℕ → ℕ → KernelEvent → List Assignment

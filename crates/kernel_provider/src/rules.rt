@@ -1,10 +1,11 @@
 //! What each kind of event assigns to attributes.
-ghost use Rattle.std.specs.Prelude.{◌≡◌, ◌<◌, ◌≤◌, ◌+◌, ◌++◌, ◌∷◌, [], pos};
+ghost use Rattle.std.specs.Prelude.{◌≡◌, ◌<◌, ◌≤◌, ◌+◌, ◌++◌, ◌∷◌, [], pos, Some, None, IfSome, IfNone};
 ghost use Rattle.arrayvec.specs.ArrayVec.{array_vec_len};
-ghost use Rattle.kernel_provider.specs.Rules.{assignments, coming_assignments, forked_assignments, freed_assignments, gives, leaving_assignments, left_status, other_assignments, process_assignments, unless_idle, woken_assignments};
+ghost use Rattle.kernel_provider.specs.Rules.{assignments, call_assignments, coming_assignments, forked_assignments, freed_assignments, gives, leaving_assignments, left_status, lost_assignments, other_assignments, process_assignments, running, unless_idle, woken_assignments};
 ghost use Rattle.kernel_provider.specs.Steps.{value_in};
 ghost use Rattle.trace_types.specs.declared.path.Path.TheVariants as path;
 ghost use Rattle.trace_types.specs.declared.path.ThreadKey.TheVariants.{Tid};
+ghost use Rattle.trace_types.specs.declared.path.CpuLeaf.TheVariants as cpu_leaf;
 ghost use Rattle.trace_types.specs.declared.path.ThreadLeaf.TheVariants as thread_leaf;
 ghost use Rattle.trace_types.specs.declared.value.Value.TheVariants.{Int};
 
@@ -113,6 +114,9 @@ fn assign_other(table: &Table, event: &Event, out: &mut Assignments)
             name,
             status,
         } => assign_process(table, event, tid, ppid, name, status, out),
+        KernelEvent::CallIn { name } => assign_call(table, event, Value::Call(name), out),
+        KernelEvent::CallOut { .. } => assign_call(table, event, Value::Null, out),
+        KernelEvent::Lost { .. } => assign_lost(table, event, out),
         _ => {}
     }
 }
@@ -250,6 +254,42 @@ fn assign_process(
             _ => {}
         }
     }
+}
+
+// The call in which the running thread is.
+fn assign_call(table: &Table, event: &Event, call: Value, out: &mut Assignments)
+    requires { array_vec_len out.old ≡ 0 }
+    ensures { out.new.items ≡ call_assignments (running (value_in table.now.table (path.Cpu event.now.host event.now.cpu cpu_leaf.Thread)) event.now.cpu) event.now.host call }
+{
+    if let Some(thread) = running(table, event) {
+        give(out, thread.at(ThreadLeaf::Call), call);
+    }
+}
+
+// Nothing more is known of the processor, nor of what the thread does that ran there.
+fn assign_lost(table: &Table, event: &Event, out: &mut Assignments)
+    requires { array_vec_len out.old ≡ 0 }
+    ensures { out.new.items ≡ lost_assignments (running (value_in table.now.table (path.Cpu event.now.host event.now.cpu cpu_leaf.Thread)) event.now.cpu) event.now.host event.now.cpu }
+{
+    if let Some(thread) = running(table, event) {
+        give(out, thread.at(ThreadLeaf::Status), Value::Null);
+        give(out, thread.at(ThreadLeaf::Call), Value::Null);
+    }
+    give(out, on_cpu(event, CpuLeaf::Thread), Value::Null);
+    give(out, on_cpu(event, CpuLeaf::Irq), Value::Null);
+    give(out, on_cpu(event, CpuLeaf::Softirq), Value::Null);
+}
+
+// The thread that runs on the event's processor, where one is known.
+fn running(table: &Table, event: &Event) -> Option<Thread>
+    ensures found { IfSome result (λ t. (t.host ≡ event.now.host) × (running (value_in table.now.table (path.Cpu event.now.host event.now.cpu cpu_leaf.Thread)) event.now.cpu ≡ Some t.key)) }
+    ensures none { IfNone result (running (value_in table.now.table (path.Cpu event.now.host event.now.cpu cpu_leaf.Thread)) event.now.cpu ≡ None) }
+{
+    let Value::Int(tid) = table.value_of(&on_cpu(event, CpuLeaf::Thread)) else {
+        return None;
+    };
+    let tid = u32::try_from(tid).ok()?;
+    Some(Thread::of(event, tid))
 }
 
 // An attribute of the event's processor.

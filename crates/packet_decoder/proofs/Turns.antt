@@ -5,7 +5,7 @@ use Rattle.ctf_fields.specs.declared.around.Scopes.{Scopes}
 use Rattle.ctf_fields.specs.declared.raw.RawEvent.{RawEvent}
 use Rattle.packet_decoder.specs.Events.{AnswersWith, Within, event_added, events_from}
 use Rattle.packet_decoder.specs.Headings.{Answers, and_then}
-use Rattle.packet_decoder.specs.declared.cause.Cause.{Cause}
+use Rattle.trace_types.specs.declared.cause.Cause.{Cause}
 use Rattle.packet_decoder.specs.declared.events.Cursor.{Cursor}
 use Rattle.packet_decoder.specs.declared.failure.Failure.{Failure}
 use Rattle.packet_decoder.specs.declared.failure.Failure.TheVariants.{Refused, OutOfMemory}

@@ -16,8 +16,8 @@ use Rattle.ctf_fields.specs.Reading.{From, Reads, Got, Fails}
 use Rattle.packet_decoder.specs.Headings.{and_then, heading, read_scope}
 use Rattle.packet_decoder.specs.Times.{stamp_in, timed}
 use Rattle.packet_decoder.specs.Values.{id_in, number_named}
-use Rattle.packet_decoder.specs.declared.cause.Cause.{Cause}
-use Rattle.packet_decoder.specs.declared.cause.Cause.TheVariants as cause
+use Rattle.trace_types.specs.declared.cause.Cause.{Cause}
+use Rattle.trace_types.specs.declared.cause.Cause.TheVariants as cause
 use Rattle.packet_decoder.specs.declared.events.Cursor.{Cursor}
 use Rattle.packet_decoder.specs.declared.events.EventHead.{EventHead}
 use Rattle.packet_decoder.specs.declared.failure.Failure.{Failure}

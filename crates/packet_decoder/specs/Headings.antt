@@ -8,8 +8,8 @@ use Rattle.ctf_fields.specs.declared.field.Field.{Field}
 use Rattle.ctf_fields.specs.Named.{first_named}
 use Rattle.ctf_fields.specs.Reading.{From, Reads, Got, Fails, as_read, scope_read}
 use Rattle.packet_decoder.specs.Values.{id_fits, id_in, magic_fits, number_named}
-use Rattle.packet_decoder.specs.declared.cause.Cause.{Cause}
-use Rattle.packet_decoder.specs.declared.cause.Cause.TheVariants as cause
+use Rattle.trace_types.specs.declared.cause.Cause.{Cause}
+use Rattle.trace_types.specs.declared.cause.Cause.TheVariants as cause
 use Rattle.packet_decoder.specs.declared.failure.Failure.{Failure}
 use Rattle.packet_decoder.specs.declared.failure.Failure.TheVariants as failure
 use Rattle.packet_decoder.specs.declared.heading.Heading.{Heading}

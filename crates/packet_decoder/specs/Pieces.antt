@@ -5,8 +5,8 @@ use Rattle.type_table.specs.ToldKept.{MetaParts}
 use Rattle.ctf_fields.specs.declared.field.Field.{Field}
 use Rattle.packet_decoder.specs.Headings.{and_then, heading}
 use Rattle.packet_decoder.specs.Values.{below_if_any, counter_in, number_named, value_named}
-use Rattle.packet_decoder.specs.declared.cause.Cause.{Cause}
-use Rattle.packet_decoder.specs.declared.cause.Cause.TheVariants as cause
+use Rattle.trace_types.specs.declared.cause.Cause.{Cause}
+use Rattle.trace_types.specs.declared.cause.Cause.TheVariants as cause
 use Rattle.packet_decoder.specs.declared.heading.Heading.{Heading}
 use Rattle.packet_decoder.specs.declared.piece.PacketSpan.{PacketSpan}
 use Rattle.packet_decoder.specs.declared.piece.Piece.{Piece}

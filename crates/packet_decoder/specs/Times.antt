@@ -9,8 +9,8 @@ use Rattle.ctf_fields.specs.Fields.{or_else}
 use Rattle.ctf_fields.specs.Reading.{integer_type}
 use Rattle.packet_decoder.specs.Headings.{and_then}
 use Rattle.packet_decoder.specs.Values.{below}
-use Rattle.packet_decoder.specs.declared.cause.Cause.{Cause}
-use Rattle.packet_decoder.specs.declared.cause.Cause.TheVariants as cause
+use Rattle.trace_types.specs.declared.cause.Cause.{Cause}
+use Rattle.trace_types.specs.declared.cause.Cause.TheVariants as cause
 use Rattle.packet_decoder.specs.declared.times.Stamp.{Stamp}
 
 -- a timestamp is a number that isn't negative

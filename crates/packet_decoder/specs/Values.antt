@@ -1,32 +1,15 @@
 -- The values of the fields of a packet that are found by their names (the names are those of CTF 1.8, sections 5.1 and 5.2; the order in which they are looked for is this project's own).
-use Rattle.std.specs.Prelude.{ℕ, ℤ, pos, ◌^◌, ◌==◌, ◌&&◌, nat_lt, Bool, true, false, List, [], ◌∷◌, length, Option, Some, None, option_map, if◌then◌else◌}
+pub use Rattle.ctf_fields.specs.Values.{number_named, value_named, below, below_if_any}
+use Rattle.std.specs.Prelude.{ℕ, ℤ, pos, ◌^◌, ◌==◌, ◌&&◌, Bool, true, false, List, [], ◌∷◌, length, Option, Some, None, option_map, if◌then◌else◌}
 use Rattle.std.specs.Ordering.{int_eq}
 use Rattle.type_table.specs.Table.{Table}
-use Rattle.type_table.specs.Types.{Text}
 use Rattle.type_table.specs.declared.integer.Integer.{Integer}
 use Rattle.ctf_fields.specs.declared.field.Field.{Field, out-Field}
 use Rattle.ctf_fields.specs.declared.field.Field.TheOpen.{Field-F}
 use Rattle.ctf_fields.specs.declared.field.Member.{Member}
 use Rattle.ctf_fields.specs.Fields.{number_of}
-use Rattle.ctf_fields.specs.Named.{first_named}
 use Rattle.ctf_fields.specs.Reading.{integer_type}
 use Rattle.packet_decoder.specs.declared.piece.Counter.{Counter}
-
--- the number of the first field of a name, with the place of its type; and its value
-abbrev pub number_named : Table → Text → Option Field → Option (ℤ × ℕ)
-number_named t text f = number_of (first_named t.names text f)
-
-abbrev pub value_named : Table → Text → Option Field → Option ℤ
-value_named t text f = option_map (λ n. n.0) (number_named t text f)
-
--- a number from 0 up to below this one
-abbrev pub below : ℕ → ℤ → Option ℕ
-below limit (pos n) = if nat_lt n limit then Some n else None
-below limit _ = None
-
-abbrev pub below_if_any : ℕ → Option ℤ → Option ℕ
-below_if_any limit None = None
-below_if_any limit (Some z) = below limit z
 
 -- the magic number, where it is there
 abbrev pub is_magic : Option (ℤ × ℕ) → Bool
@@ -48,7 +31,7 @@ are_bytes (b ∷ bytes) (f ∷ fs) = is_byte b (number_of (Some f)) && are_bytes
 are_bytes _ _ = false
 
 abbrev pub is_id : List ℕ → Field-F Field Member → Bool
-is_id uuid (Field-F.List fs) = if length fs == 16 then are_bytes uuid fs else true
+is_id uuid (Field-F.List item fs) = if length fs == 16 then are_bytes uuid fs else true
 is_id uuid _ = true
 
 abbrev pub id_fits : Option (List ℕ) → Option Field → Bool

@@ -3,14 +3,14 @@ ghost use Rattle.std.specs.Prelude.{◌≡◌, ◌≤◌, ◌<◌, ◌+◌, ◌*
 ghost use Rattle.packet_decoder.specs.Headings.{Answers};
 ghost use Rattle.packet_decoder.specs.Pieces.{AllLieIn, LiesIn, packet_at, pieces, right_sizes, sizes, span_of};
 
-use crate::cause::Cause;
 use crate::failure::Failure;
 use crate::heading::{Heading, read_heading};
 use crate::piece::{PacketSpan, Piece};
-use crate::values::{below_32, below_64, counter_in, number_named, value_named};
+use crate::values::{below_32, counter_in};
+use ctf_fields::{below_64, number_named, value_named};
 use sqlite_items::Items;
 use std::alloc::Global;
-use trace_types::OutOfMemory;
+use trace_types::{Cause, OutOfMemory};
 use type_table::{Table, TraceMeta};
 
 /// The pieces of a stream file, in order: packets without a gap between them, up to the end or to a place where no

@@ -9,7 +9,7 @@ use crate::events::{Cursor, Packet, read_event};
 use crate::failure::Failure;
 use crate::heading::{Heading, read_heading};
 use crate::piece::{PacketResult, PacketSpan};
-use ctf_fields::{BitSpan, RawEvent, Scopes};
+use ctf_fields::{BitSpan, RawEvent, Scopes, Scratch};
 use sqlite_items::Items;
 use std::alloc::Global;
 use trace_types::OutOfMemory;
@@ -93,9 +93,10 @@ fn read_events(
     ensures { Answers (events_from packet.now.end packet.now (cleared scopes.old) [] start) result }
 {
     let mut events = Items::new(alloc);
+    let mut scratch = Scratch::new(alloc);
     let mut cursor = start;
     while cursor.at < packet.bits.end {
-        cursor = add_event(alloc, packet, scopes, cursor, &mut events)?;
+        cursor = add_event(alloc, packet, scopes, &mut scratch, cursor, &mut events)?;
     }
     Ok(events)
 }
@@ -105,6 +106,7 @@ fn add_event(
     alloc: Global,
     packet: &Packet<'_>,
     scopes: &mut Scopes,
+    scratch: &mut Scratch,
     cursor: Cursor,
     events: &mut Items<RawEvent>,
 ) -> Result<Cursor, Failure>
@@ -114,7 +116,7 @@ fn add_event(
     ensures forward { IfOk result (λ next. (cursor.at < next.at) × (next.at ≤ 2 ^ 63)) }
     ensures stays { OnOk result (cleared scopes.new ≡ cleared scopes.old) }
 {
-    let (event, next) = read_event(alloc, packet, scopes, cursor)?;
+    let (event, next) = read_event(alloc, packet, scopes, scratch, cursor)?;
     events.push(event)?;
     Ok(next)
 }

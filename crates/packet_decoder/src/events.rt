@@ -1,18 +1,20 @@
 //! The events of a packet.
 ghost use Rattle.std.specs.Prelude.{◌≡◌, ◌≤◌, ◌<◌, ◌^◌, ◌++◌, IfOk, OnOk, IfSome, [], ◌∷◌};
 ghost use Rattle.std.specs.Option.{option_copied};
-ghost use Rattle.packet_decoder.specs.Events.{cleared, event, event_body, event_fields, event_head, event_of, field_or_none, scope_at, with_event_header};
+ghost use Rattle.packet_decoder.specs.Events.{cleared, event, event_body, event_fields, event_by, event_head, field_or_none, scope_at, with_event_header};
 ghost use Rattle.packet_decoder.specs.Headings.{Answers};
 
-use crate::cause::Cause;
 use crate::failure::Failure;
-use crate::heading::read_scope;
 use crate::times::{Stamp, stamp_in, timed};
-use crate::values::{id_in, number_named, number_of};
-use ctf_fields::{BitSpan, Field, FieldError, RawEvent, Scopes, last_named};
+use crate::values::id_in;
+use ctf_fields::{
+    BitSpan, Field, FieldError, RawEvent, Scopes, Scratch, last_and_first, number_of,
+    read_type_within,
+};
 use sqlite_items::Items;
 use std::alloc::Global;
 use std::marker::Model;
+use trace_types::Cause;
 use type_table::{EventParts, StreamScopes, TraceMeta};
 
 /// A packet whose events are read: what its trace declares, its bits, its stream and its processor.
@@ -59,6 +61,7 @@ fn scope_at(
     alloc: Global,
     packet: &Packet<'_>,
     scopes: &Scopes,
+    scratch: &mut Scratch,
     ty: Option<u32>,
     at: u64,
 ) -> Result<(Option<Field>, u64), Failure>
@@ -66,8 +69,11 @@ fn scope_at(
     ensures answers { Answers (scope_at packet.now scopes.now ty at) result }
     ensures forward { IfOk result (λ r. (at ≤ r.1) × (r.1 ≤ 2 ^ 63)) }
 {
-    match read_scope(alloc, packet.meta, ty, packet.bits, at, scopes) {
-        Ok((field, end)) => Ok((field, end)),
+    let Some(ty) = ty else {
+        return Ok((None, at));
+    };
+    match read_type_within(alloc, packet.meta, ty, packet.bits, at, scopes, scratch) {
+        Ok((field, end)) => Ok((Some(field), end)),
         Err(FieldError::ShortContent) => Err(Failure::Refused(Cause::ShortContent)),
         Err(FieldError::NoVariant) => Err(Failure::Refused(Cause::NoVariant)),
         Err(FieldError::TooLong) => Err(Failure::Refused(Cause::TooLong)),
@@ -75,12 +81,11 @@ fn scope_at(
     }
 }
 
-// The place of the event that a header names, and the types of its scopes.
-fn event_of(meta: &TraceMeta, stream: u64, header: Option<&Field>) -> Option<(u32, EventParts)>
-    ensures { result ≡ event_of meta.now stream (option_copied header.entry) }
+// The place of the event of an id, and the types of its scopes.
+fn event_by(meta: &TraceMeta, stream: u64, id: Option<u64>) -> Option<(u32, EventParts)>
+    ensures { result ≡ event_by meta.now stream id }
 {
-    let id = id_in(number_of(last_named(meta.table(), b"id", header)))?;
-    let place = meta.find_event(stream, id)?;
+    let place = meta.find_event(stream, id?)?;
     let (_, parts) = meta.event(place)?;
     Some((place, parts))
 }
@@ -91,6 +96,7 @@ fn event_head(
     alloc: Global,
     packet: &Packet<'_>,
     scopes: &Scopes,
+    scratch: &mut Scratch,
     at: u64,
 ) -> Result<EventHead, Failure>
     requires { at ≤ 2 ^ 63 }
@@ -98,12 +104,21 @@ fn event_head(
     ensures forward { IfOk result (λ h. (at ≤ h.at) × (h.at ≤ 2 ^ 63)) }
     ensures stamp { IfOk result (λ h. IfSome h.stamp (λ s. (1 ≤ s.size) × (s.size ≤ 64))) }
 {
-    let (header, at) = scope_at(alloc, packet, scopes, packet.parts.event_header, at)?;
-    let Some((event, parts)) = event_of(packet.meta, packet.stream, header.as_ref()) else {
+    let (header, at) = scope_at(
+        alloc,
+        packet,
+        scopes,
+        scratch,
+        packet.parts.event_header,
+        at,
+    )?;
+    let table = packet.meta.table();
+    let named = last_and_first(table, b"id", b"timestamp", header.as_ref());
+    let id = id_in(number_of(named.last));
+    let stamp = stamp_in(table, number_of(named.first));
+    let Some((event, parts)) = event_by(packet.meta, packet.stream, id) else {
         return Err(Failure::Refused(Cause::UnknownEvent));
     };
-    let table = packet.meta.table();
-    let stamp = stamp_in(table, number_named(table, b"timestamp", header.as_ref()));
     Ok(EventHead {
         header,
         at,
@@ -119,6 +134,7 @@ fn event_fields(
     alloc: Global,
     packet: &Packet<'_>,
     scopes: &mut Scopes,
+    scratch: &mut Scratch,
     parts: EventParts,
     at: u64,
 ) -> Result<(Option<Field>, u64), Failure>
@@ -127,9 +143,9 @@ fn event_fields(
     ensures forward { IfOk result (λ r. (at ≤ r.1) × (r.1 ≤ 2 ^ 63)) }
     ensures stays { OnOk result (cleared scopes.new ≡ cleared scopes.old) }
 {
-    let (context, at) = scope_at(alloc, packet, scopes, parts.context, at)?;
+    let (context, at) = scope_at(alloc, packet, scopes, scratch, parts.context, at)?;
     scopes.event_context = context;
-    scope_at(alloc, packet, scopes, parts.fields, at)
+    scope_at(alloc, packet, scopes, scratch, parts.fields, at)
 }
 
 // What stands behind an event's header: the stream's context for events, and the event's own.
@@ -138,6 +154,7 @@ fn event_body(
     alloc: Global,
     packet: &Packet<'_>,
     scopes: &mut Scopes,
+    scratch: &mut Scratch,
     parts: EventParts,
     at: u64,
 ) -> Result<(Option<Field>, u64), Failure>
@@ -146,16 +163,25 @@ fn event_body(
     ensures forward { IfOk result (λ r. (at ≤ r.1) × (r.1 ≤ 2 ^ 63)) }
     ensures stays { OnOk result (cleared scopes.new ≡ cleared scopes.old) }
 {
-    let (context, at) = scope_at(alloc, packet, scopes, packet.parts.event_context, at)?;
+    let (context, at) = scope_at(
+        alloc,
+        packet,
+        scopes,
+        scratch,
+        packet.parts.event_context,
+        at,
+    )?;
     scopes.stream_context = context;
-    event_fields(alloc, packet, scopes, parts, at)
+    event_fields(alloc, packet, scopes, scratch, parts, at)
 }
 
-// No scope of an event is read.
-fn clear(scopes: &mut Scopes)
+// No scope of an event is read. The memory of the header is used again.
+fn clear(scopes: &mut Scopes, scratch: &mut Scratch)
     ensures { scopes.new ≡ cleared scopes.old }
 {
-    scopes.event_header = None;
+    if let Some(header) = scopes.event_header.take() {
+        scratch.recycle(header);
+    }
     scopes.stream_context = None;
     scopes.event_context = None;
     scopes.event_fields = None;
@@ -176,6 +202,7 @@ pub fn read_event(
     alloc: Global,
     packet: &Packet<'_>,
     scopes: &mut Scopes,
+    scratch: &mut Scratch,
     cursor: Cursor,
 ) -> Result<(RawEvent, Cursor), Failure>
     requires { cursor.at ≤ 2 ^ 63 }
@@ -183,10 +210,10 @@ pub fn read_event(
     ensures forward { IfOk result (λ r. (cursor.at < r.1.at) × (r.1.at ≤ 2 ^ 63)) }
     ensures stays { OnOk result (cleared scopes.new ≡ cleared scopes.old) }
 {
-    clear(scopes);
-    let head = event_head(alloc, packet, scopes, cursor.at)?;
+    clear(scopes, scratch);
+    let head = event_head(alloc, packet, scopes, scratch, cursor.at)?;
     scopes.event_header = head.header;
-    let (fields, at) = event_body(alloc, packet, scopes, head.parts, head.at)?;
+    let (fields, at) = event_body(alloc, packet, scopes, scratch, head.parts, head.at)?;
     if at == cursor.at {
         return Err(Failure::Refused(Cause::NoBits));
     }

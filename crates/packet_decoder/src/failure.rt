@@ -1,8 +1,7 @@
 //! Why a packet gives nothing.
-use crate::cause::Cause;
 use ctf_fields::FieldError;
 use std::alloc::AllocError;
-use trace_types::OutOfMemory;
+use trace_types::{Cause, OutOfMemory};
 
 /// The packet is refused, or memory ran out.
 #[derive(Clone, Copy, Debug, PartialEq, Eq)]

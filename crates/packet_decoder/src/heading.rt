@@ -5,11 +5,13 @@ ghost use Rattle.ctf_fields.specs.Leaves.{IsSpan};
 ghost use Rattle.ctf_fields.specs.Reading.{Gives};
 ghost use Rattle.packet_decoder.specs.Headings.{Answers, context_read, header_judged, heading, no_scopes, read_scope, stream_of};
 
-use crate::cause::Cause;
 use crate::failure::Failure;
-use crate::values::{id_fits, id_in, magic_fits, number_named};
-use ctf_fields::{BitSpan, Field, FieldError, Scopes, first_named, read_type};
+use crate::values::{id_fits, id_in, magic_fits};
+use ctf_fields::{
+    BitSpan, Field, FieldError, Scopes, Scratch, first_named, number_named, read_type_within,
+};
 use std::alloc::Global;
+use trace_types::Cause;
 use type_table::{StreamScopes, TraceMeta};
 
 /// The fields of a packet's header and of its context, the first bit behind them, and its stream: its id, and the
@@ -35,7 +37,8 @@ fn no_scopes() -> Scopes
     }
 }
 
-/// The field of a scope that may be declared, and the place behind it.
+/// The field of a scope that may be declared, and the place behind it. `scratch` is memory for structures that are
+/// being read.
 pub fn read_scope(
     alloc: Global,
     meta: &TraceMeta,
@@ -43,6 +46,7 @@ pub fn read_scope(
     bits: BitSpan<'_>,
     at: u64,
     scopes: &Scopes,
+    scratch: &mut Scratch,
 ) -> Result<(Option<Field>, u64), FieldError>
     requires span { IsSpan bits.bytes.now bits.end }
     requires at { at ≤ 2 ^ 63 }
@@ -52,7 +56,7 @@ pub fn read_scope(
     let Some(ty) = ty else {
         return Ok((None, at));
     };
-    let (field, end) = read_type(alloc, meta, ty, bits, at, scopes)?;
+    let (field, end) = read_type_within(alloc, meta, ty, bits, at, scopes, scratch)?;
     Ok((Some(field), end))
 }
 
@@ -86,8 +90,17 @@ pub fn read_heading(alloc: Global, meta: &TraceMeta, rest: &[u8]) -> Result<Head
     ensures start { IfOk result (λ h. h.start ≤ 2 ^ 63) }
 {
     let bits = all_bits(rest);
-    match read_scope(alloc, meta, meta.packet_header(), bits, 0, &no_scopes()) {
-        Ok((header, at)) => header_judged(alloc, meta, rest, header, at),
+    let mut scratch = Scratch::new(alloc);
+    match read_scope(
+        alloc,
+        meta,
+        meta.packet_header(),
+        bits,
+        0,
+        &no_scopes(),
+        &mut scratch,
+    ) {
+        Ok((header, at)) => header_judged(alloc, meta, rest, header, at, &mut scratch),
         Err(FieldError::OutOfMemory) => Err(Failure::OutOfMemory),
         Err(_) => Err(Failure::Refused(Cause::ShortHeader)),
     }
@@ -100,6 +113,7 @@ fn header_judged(
     rest: &[u8],
     header: Option<Field>,
     at: u64,
+    scratch: &mut Scratch,
 ) -> Result<Heading, Failure>
     requires rest { length rest.now ≤ 2 ^ 60 }
     requires at { at ≤ 2 ^ 63 }
@@ -116,7 +130,7 @@ fn header_judged(
     let Some((stream, parts)) = stream_of(meta, header.as_ref()) else {
         return Err(Failure::Refused(Cause::UnknownStream));
     };
-    context_read(alloc, meta, rest, header, at, stream, parts)
+    context_read(alloc, meta, rest, header, at, stream, parts, scratch)
 }
 
 #[tactic(auto, unfolding(crate::specs::Headings::context_read))]
@@ -128,6 +142,7 @@ fn context_read(
     at: u64,
     stream: u64,
     parts: StreamScopes,
+    scratch: &mut Scratch,
 ) -> Result<Heading, Failure>
     requires rest { length rest.now ≤ 2 ^ 60 }
     requires at { at ≤ 2 ^ 63 }
@@ -143,6 +158,7 @@ fn context_read(
         all_bits(rest),
         at,
         &scopes,
+        scratch,
     ) {
         Ok((context, start)) => {
             scopes.packet_context = context;

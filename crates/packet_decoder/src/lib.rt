@@ -1,7 +1,6 @@
 //! Packets of stream files and their events (CTF 1.8, sections 5 and 6).
 #![tactic(auto)]
 
-mod cause;
 mod cutting;
 mod decoding;
 mod events;
@@ -11,7 +10,6 @@ mod piece;
 mod times;
 mod values;
 
-pub use cause::Cause;
 pub use cutting::cut;
 pub use decoding::decode;
 pub use piece::{Counter, PacketResult, PacketSpan, Piece};

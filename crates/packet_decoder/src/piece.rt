@@ -1,7 +1,7 @@
 //! The pieces of a stream file.
-use crate::cause::Cause;
 use ctf_fields::RawEvent;
 use sqlite_items::Items;
+use trace_types::Cause;
 
 /// A count of `size` bits, which begins again from 0 behind its greatest value.
 #[derive(Clone, Copy, Debug, PartialEq, Eq)]

@@ -3,9 +3,8 @@ ghost use Rattle.std.specs.Prelude.{◌≡◌, ◌≤◌, IfSome};
 ghost use Rattle.packet_decoder.specs.Times.{advanced, clock_of, in_range, only_rate, rate_of, stamp_in, time_of, timed};
 ghost use Rattle.type_table.specs.ToldKept.{IsRate};
 
-use crate::cause::Cause;
-use crate::values::below_64;
-use ctf_fields::integer_type;
+use ctf_fields::{below_64, integer_type};
+use trace_types::Cause;
 use type_table::{ClockRate, Table, TraceMeta};
 
 /// Nanoseconds in a second.

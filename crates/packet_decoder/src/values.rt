@@ -1,58 +1,19 @@
 //! The values of the fields of a packet that are found by their names.
-ghost use Rattle.std.specs.Prelude.{◌≡◌, ◌^◌, Some};
+ghost use Rattle.std.specs.Prelude.{◌≡◌, Some};
 ghost use Rattle.std.specs.Option.{option_copied};
 ghost use Rattle.ctf_fields.specs.Fields.{number_of};
-ghost use Rattle.packet_decoder.specs.Values.{are_bytes, below_if_any, counter_in, id_fits, id_in, is_byte, magic_fits, number_named, value_named};
+ghost use Rattle.ctf_fields.specs.Values.{below_if_any};
+ghost use Rattle.packet_decoder.specs.Values.{are_bytes, counter_in, id_fits, id_in, is_byte, magic_fits};
 
 use crate::piece::Counter;
-use ctf_fields::{Field, first_named, integer_type};
+use ctf_fields::{Field, below, below_64, integer_type};
 use type_table::Table;
-
-/// The number that a field is, with the place of its type.
-pub fn number_of(field: Option<&Field>) -> Option<(i128, u32)>
-    ensures { result ≡ number_of (option_copied field.entry) }
-{
-    match field? {
-        Field::Int { value, ty } => Some((*value, *ty)),
-        _ => None,
-    }
-}
-
-/// The number of the first field of a name, with the place of its type.
-pub fn number_named(table: &Table, text: &[u8], field: Option<&Field>) -> Option<(i128, u32)>
-    ensures { result ≡ number_named table.now text.now (option_copied field.entry) }
-{
-    number_of(first_named(table, text, field))
-}
-
-/// The value of the first field of a name.
-pub fn value_named(table: &Table, text: &[u8], field: Option<&Field>) -> Option<i128>
-    ensures { result ≡ value_named table.now text.now (option_copied field.entry) }
-{
-    let (value, _) = number_named(table, text, field)?;
-    Some(value)
-}
-
-/// A number that 64 bits hold.
-pub fn below_64(value: Option<i128>) -> Option<u64>
-    ensures { result ≡ below_if_any (2 ^ 64) value }
-{
-    let value = value?;
-    if value < 0 || value > i128::from(u64::MAX) {
-        return None;
-    }
-    Some(value as u64)
-}
 
 /// A number that 32 bits hold.
 pub fn below_32(value: Option<i128>) -> Option<u32>
     ensures { result ≡ below_if_any 4294967296 value }
 {
-    let value = value?;
-    if value < 0 || value > i128::from(u32::MAX) {
-        return None;
-    }
-    Some(value as u32)
+    Some(below(value, 1 << 32)? as u32)
 }
 
 /// Whether the field is the magic number, where it is there.
@@ -71,7 +32,7 @@ pub fn id_fits(uuid: Option<[u8; 16]>, field: Option<&Field>) -> bool
     ensures { result ≡ id_fits uuid (option_copied field.entry) }
 {
     match (uuid, field) {
-        (Some(uuid), Some(Field::List(items))) if items.len() == 16 => {
+        (Some(uuid), Some(Field::List { items, .. })) if items.len() == 16 => {
             are_bytes(uuid.as_slice(), items.as_slice())
         }
         _ => true,

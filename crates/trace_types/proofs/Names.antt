@@ -1,9 +1,11 @@
 -- A name that is read byte by byte into an array that is padded with zeros.
-use Rattle.std.proofs.Common.{◌≡◌, ◌≢◌, ◌⊎◌, inl, inr, ℕ, zero, suc, ◌+◌, ◌-◌, ◌/◌, ◌%◌, ◌<◌, ◌≤◌, List, [], ◌∷◌, ◌++◌, length, set, take, refl, sym, ap, ap₂, ◌∙◌, subst, append_assoc, append-nil, length-append, lt-ltb, arith, Bool, true, false, if◌then◌else◌}
+use Rattle.std.proofs.Common.{◌≡◌, ◌≢◌, ◌⊎◌, inl, inr, ℕ, zero, suc, min, drop, cond, nat_lt, ◌+◌, ◌-◌, ◌/◌, ◌%◌, ◌<◌, ◌≤◌, List, [], ◌∷◌, ◌++◌, length, set, take, refl, sym, ap, ap₂, ◌∙◌, subst, append_assoc, append-nil, length-append, lt-ltb, arith, Bool, true, false, if◌then◌else◌}
 use Rattle.std.specs.Prelude.{flat_map, replicate}
-use Rattle.std.proofs.lemmas.List.{take_more_set, length-take-le, set_at, length-set, nil_from_length}
+use Rattle.std.proofs.lemmas.List.{take_more_set, length-take-le, take_all, drop-replicate, set_at, length-set, nil_from_length}
 use Rattle.std.proofs.lemmas.List.Concat.{flat_map-append}
-use Rattle.std.specs.List.{AllByRecursion}
+use Rattle.std.specs.List.{AllByRecursion, prefix_len}
+use Rattle.std.proofs.lemmas.Bool.{ltb-true, ltb-false}
+use Rattle.std.proofs.lemmas.List.Sums.{prefix_len-le-length}
 use Rattle.trace_types.specs.ByteTexts.{spelled, is_plain, hex_digit}
 use Rattle.trace_types.specs.Padding.{name_in, padded, IsPadded}
 use Rattle.trace_types.specs.Comms.{SpellsName}
@@ -132,3 +134,47 @@ whole text bytes len has =
 -- the same, where what is left has no bytes
 pub nothing_left : (text bytes : List ℕ) (len : ℕ) (rest : List ℕ) → HasRead text bytes len rest → length rest ≡ 0 → IsPadded bytes × SpellsName text (name_in bytes)
 nothing_left text bytes len rest has none = whole text bytes len (subst (HasRead text bytes len) (nil_from_length rest none) has)
+
+all_name : (bs : List ℕ) → AllByRecursion (λ b. 0 < b) (name_in bs)
+all_name [] = tt
+all_name (b ∷ bs) = by (nat_lt 0 b) refl (all_name bs)
+  where
+    by : (k : Bool) → nat_lt 0 b ≡ k → AllByRecursion (λ b. 0 < b) (name_in bs) → AllByRecursion (λ b. 0 < b) (take (cond k (1 + prefix_len (λ b. nat_lt 0 b) bs) 0) (b ∷ bs))
+    by true h more = rw one-add (ltb-true 0 b h, more)
+    by false h more = tt
+
+all_take : (n : ℕ) (xs : List ℕ) → AllByRecursion (λ b. 0 < b) xs → AllByRecursion (λ b. 0 < b) (take n xs)
+all_take zero xs h = tt
+all_take (suc n) [] h = tt
+all_take (suc n) (x ∷ xs) h = (h.0, all_take n xs h.1)
+
+take_less : (m n : ℕ) (xs : List ℕ) → m ≤ n → take m (take n xs) ≡ take m xs
+take_less zero n xs h = refl
+take_less (suc m) zero xs h = absurd (omega (arith, h))
+take_less (suc m) (suc n) [] h = refl
+take_less (suc m) (suc n) (x ∷ xs) h = ap (λ l. x ∷ l) (take_less m n xs (omega (arith, h)))
+
+take_least : (len n : ℕ) (xs : List ℕ) → len ≡ min n 15 → n ≤ length xs → take len xs ≡ take 15 (take n xs)
+take_least len n xs e h = by (nat_lt 15 n) refl
+  where
+    by : (b : Bool) → nat_lt 15 n ≡ b → take len xs ≡ take 15 (take n xs)
+    by true g = let full : len ≡ 15 = omega (arith, e, ltb-true 15 n g) in ap (λ k. take k xs) full ∙ sym (take_less 15 n xs (omega (arith, ltb-true 15 n g)))
+    by false g = let less : len ≡ n = omega (arith, e, ltb-false 15 n g) in ap (λ k. take k xs) less ∙ sym (take_all 15 (take n xs) (omega (arith, length-take-le n xs h, ltb-false 15 n g)))
+
+-- so many bytes are there, and as many zeros
+pub front_length : (bs : List ℕ) (n len : ℕ) → n ≡ prefix_len (λ b. nat_lt 0 b) bs → len ≡ min n 15 → (length (take len bs) ≡ len) × (length (take len (replicate {A = ℕ} 16 0)) ≡ len)
+front_length bs n len is e =
+    let within : n ≤ length bs = subst (λ k. k ≤ length bs) (sym is) (prefix_len-le-length (λ b. nat_lt 0 b) bs) in
+    (length-take-le len bs (omega (arith, e, within)), length-take-le len (replicate {A = ℕ} 16 0) (omega (arith, e)))
+
+-- the front of a name, with zeros behind it
+pub cut_name : (bs name : List ℕ) (n len : ℕ) → n ≡ prefix_len (λ b. nat_lt 0 b) bs → len ≡ min n 15 → name ≡ take len bs → IsPadded (name ++ drop len (replicate 16 0)) × (name_in (name ++ drop len (replicate 16 0)) ≡ take 15 (name_in bs))
+cut_name bs name n len p e is =
+    let within : n ≤ length bs = subst (λ k. k ≤ length bs) (sym p) (prefix_len-le-length (λ b. nat_lt 0 b) bs) in
+    let cut : name ≡ take 15 (name_in bs) = is ∙ (take_least len n bs e within ∙ ap (λ k. take 15 (take k bs)) p) in
+    let size : length name ≡ len = ap length is ∙ (front_length bs n len p e).0 in
+    let above : AllByRecursion (λ b. 0 < b) name = subst (AllByRecursion (λ b. 0 < b)) (sym cut) (all_take 15 (name_in bs) (all_name bs)) in
+    let zeros : drop len (replicate {A = ℕ} 16 0) ≡ replicate (16 - length name) 0 = drop-replicate len 16 0 ∙ ap (λ (n : ℕ). replicate {A = ℕ} (16 - n) 0) (sym size) in
+    let front : name_in (name ++ replicate (16 - length name) 0) ≡ name = name_of name (16 - length name) above in
+    let short : length name ≤ 15 = omega (arith, e, size) in
+    rw zeros ((rw front refl, rw front short), front ∙ cut)

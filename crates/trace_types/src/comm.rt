@@ -1,6 +1,7 @@
 //! A thread's name as the kernel keeps it.
-ghost use Rattle.std.specs.Prelude.{◌≡◌, ◌≤◌, ℕ, List, length, IfSome, IfNone, nat_lt};
+ghost use Rattle.std.specs.Prelude.{◌≡◌, ◌≤◌, ℕ, List, length, take, IfSome, IfNone, nat_lt};
 ghost use Rattle.std.specs.List.{prefix_len};
+ghost use Rattle.trace_types.specs.Padding.{name_in};
 ghost use Rattle.trace_types.specs.Comms.{IsComm, SpellsName};
 
 use crate::byte_text::read_byte;
@@ -51,6 +52,17 @@ impl Eq for Comm {
 }
 
 impl Comm {
+    /// The name that these bytes begin with: those before the first zero, and the first 15 of these where there are
+    /// more, as the kernel cuts it.
+    pub fn first_of(bytes: &[u8]) -> Comm
+        ensures { result ≡ take 15 (name_in bytes.now) }
+    {
+        let len = name_len(bytes).min(15);
+        let mut padded = [0; 16];
+        padded[..len].copy_from_slice(&bytes[..len]);
+        Comm { bytes: padded }
+    }
+
     /// The bytes of the name.
     pub fn as_bytes(&self) -> &[u8]
         ensures { result.now ≡ self.now }

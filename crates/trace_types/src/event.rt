@@ -1,5 +1,5 @@
 //! Events of the kernel, as they are merged.
-use crate::Comm;
+use crate::{Comm, SegKey};
 
 /// Times and keys lie below this, in ns.
 pub const TIME_END: u64 = 0x4000_0000_0000_0000;
@@ -81,6 +81,44 @@ pub enum KernelEvent {
         ppid: u32,
         name: Comm,
         status: u32,
+    },
+    /// A thread entered a system call. `name` is the place of the event's name in its host's names.
+    CallIn {
+        name: u32,
+    },
+    /// It came back from one.
+    CallOut {
+        name: u32,
+    },
+    /// A TCP segment was handed to a network device.
+    Send {
+        key: SegKey,
+    },
+    /// A TCP segment came from a network device.
+    Receive {
+        key: SegKey,
+    },
+    /// A request was handed to a disk: its device, its first sector and its number of sectors.
+    DiskIssue {
+        sector: u64,
+        dev: u32,
+        nr_sector: u32,
+    },
+    /// The disk is done with it.
+    DiskDone {
+        sector: u64,
+        dev: u32,
+        nr_sector: u32,
+    },
+    /// Here events of this processor are missing: the tracer discarded so many, or a packet isn't
+    /// there. No tracer records it: the packets before and after tell it.
+    Lost {
+        events: u64,
+        gap: bool,
+    },
+    /// Any other event, or one that lacks a field. `name` is the place of its name.
+    Other {
+        name: u32,
     },
 }
 

@@ -3,24 +3,30 @@
 
 mod byte_order;
 mod byte_text;
+mod cause;
 mod comm;
 mod cut;
 mod event;
+mod host;
 mod memory;
 mod number;
 mod path;
 mod path_text;
+mod segment;
 mod text;
 mod value;
 
 pub use byte_order::ByteOrderKind;
 pub use byte_text::write_byte_text;
+pub use cause::Cause;
 pub use comm::{Comm, read_comm};
 pub use cut::cut_at;
 pub use event::{Event, KernelEvent, Merged, TIME_END};
+pub use host::{HostEvents, RefusedPacket};
 pub use memory::OutOfMemory;
 pub use number::{read_number, read_number_below, read_signed};
 pub use path::{CpuLeaf, Path, ThreadKey, ThreadLeaf, write_path};
 pub use path_text::read_path;
+pub use segment::SegKey;
 pub use text::Text;
 pub use value::Value;

@@ -1,4 +1,4 @@
-//! Why a packet is refused.
+//! Why a packet is refused (the checks of CTF 1.8, sections 5 and 6, and of times).
 
 /// Why a packet, or the rest of a file, is refused.
 #[derive(Clone, Copy, Debug, PartialEq, Eq)]

@@ -1,0 +1,13 @@
+-- The front of a list, with one item more.
+use Rattle.std.proofs.Common.{◌≡◌, ◌+◌, ℕ, zero, suc, List, [], ◌∷◌, ◌++◌, Some, slice_get, take, ap, arith}
+
+add-one : (n : ℕ) → n + 1 ≡ suc n
+add-one n = omega arith
+
+front : {A : Type 0} (xs : List A) (n : ℕ) (x : A) → slice_get xs n ≡ Some x → take (suc n) xs ≡ take n xs ++ x ∷ []
+front [] n x e = absurd (cc)
+front (y ∷ ys) zero x e = let same : y ≡ x = cc in ap (λ z. z ∷ []) same
+front (y ∷ ys) (suc n) x e = ap (λ l. y ∷ l) (front ys n x e)
+
+pub next_taken : {A : Type 0} (xs : List A) (n : ℕ) (x : A) → slice_get xs n ≡ Some x → take (n + 1) xs ≡ take n xs ++ x ∷ []
+next_taken xs n x e = rw (add-one n) (front xs n x e)

@@ -1,0 +1,5 @@
+pub mod Parts
+pub mod Jobs
+pub mod Marks
+pub mod Hosts
+pub mod Limits

@@ -1,0 +1,62 @@
+//! What the files of a host give together.
+ghost use Rattle.std.specs.Prelude.{◌≡◌, ◌+◌, ◌++◌, IfOk, OnOk, length};
+ghost use Rattle.decode_pool.specs.Hosts.{incomplete_in, refused_in};
+ghost use Rattle.decode_pool.specs.Marks.{file_events, kept_in};
+
+use crate::listing::file_events;
+use crate::part::Part;
+use std::alloc::Global;
+use trace_types::{Event, OutOfMemory, RefusedPacket, Text};
+
+/// The events of files in the order of the files, what was refused in them, how many packets were accepted, and how
+/// many events lack a field.
+#[derive(Debug, Drop)]
+pub struct Gathered {
+    pub events: Vec<Event>,
+    pub refused: Vec<RefusedPacket>,
+    pub packets: u64,
+    pub incomplete: u64,
+}
+
+/// Adds what the pieces of one more file hold.
+pub fn add_parts(
+    alloc: Global,
+    name: &Text,
+    parts: &[Part],
+    gathered: &mut Gathered,
+) -> Result<(), OutOfMemory>
+    ensures events { OnOk result (gathered.new.events.items ≡ gathered.old.events.items ++ file_events parts.now) }
+    ensures refused { OnOk result (gathered.new.refused.items ≡ gathered.old.refused.items ++ refused_in name.now parts.now) }
+    ensures packets { OnOk result (gathered.new.packets ≡ gathered.old.packets + length (kept_in parts.now)) }
+    ensures incomplete { OnOk result (gathered.new.incomplete ≡ gathered.old.incomplete + incomplete_in (kept_in parts.now)) }
+{
+    let events = file_events(alloc, parts)?;
+    gathered.events.extend_from_slice(events.as_slice())?;
+    for part in parts {
+        match part {
+            Part::Kept(kept) => {
+                gathered.packets = sum(gathered.packets, 1)?;
+                gathered.incomplete = sum(gathered.incomplete, kept.incomplete)?;
+            }
+            Part::Refused { offset, cause } => {
+                let file = Text::from_bytes(alloc, name.as_bytes())?;
+                gathered.refused.push(RefusedPacket {
+                    file,
+                    offset: *offset,
+                    cause: *cause,
+                })?;
+            }
+        }
+    }
+    Ok(())
+}
+
+/// The sum of two counts. No memory holds so many things that it passes 64 bits.
+pub fn sum(a: u64, b: u64) -> Result<u64, OutOfMemory>
+    ensures { IfOk result (λ n. n ≡ a + b) }
+{
+    match a.checked_add(b) {
+        Some(sum) => Ok(sum),
+        None => Err(OutOfMemory),
+    }
+}

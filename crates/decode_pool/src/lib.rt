@@ -1,0 +1,16 @@
+//! The packets of a host's files, decoded into one list of kernel events in order of time.
+#![tactic(auto)]
+
+mod all;
+mod decoding;
+mod files;
+mod gathered;
+mod hosts;
+mod listing;
+mod loss;
+mod packets;
+mod part;
+
+pub use all::{DecodeError, MAX_EVENTS, MAX_PACKETS, decode_all};
+pub use files::FileBytes;
+pub use hosts::{HostFiles, host_events};

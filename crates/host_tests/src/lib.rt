@@ -1,0 +1,5 @@
+//! Tests of the events of hosts.
+#![tactic(auto)]
+
+#[cfg(test)]
+mod hosts;

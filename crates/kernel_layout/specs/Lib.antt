@@ -1,0 +1,3 @@
+pub mod Tracepoints
+pub mod Needed
+pub mod Kinds

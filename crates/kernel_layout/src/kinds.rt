@@ -1,0 +1,255 @@
+//! The kinds of events, by their names and fields.
+ghost use Rattle.std.specs.Prelude.{◌≡◌};
+ghost use Rattle.kernel_layout.specs.Kinds.{event_of, fork, kind_of, migrate, name_of, other_event_of, process, disk_request, switch, wakeup_fields};
+ghost use Rattle.kernel_layout.specs.Tracepoints.{layout_of};
+
+use crate::layout::Layout;
+use crate::needed::{Fields, comm, of_32, of_64, priority, small, state};
+use crate::segments::segment;
+use crate::tracepoint::Tracepoint;
+use ctf_fields::RawEvent;
+use trace_types::{Comm, KernelEvent};
+use type_table::TraceMeta;
+
+/// What an event is, and whether a field is missing that its name calls for; it is then another event. A field of
+/// another form or out of its range is missing. `layout` is that of the trace. It takes no memory.
+pub fn kind_of(meta: &TraceMeta, layout: &Layout, raw: &RawEvent) -> (KernelEvent, bool)
+    requires { layout.now ≡ layout_of meta.now }
+    ensures { result ≡ kind_of meta.now raw.now }
+{
+    let name = name_of(meta, raw.event);
+    let fields = Fields {
+        table: meta.table(),
+        root: &raw.fields,
+    };
+    match event_of(layout.of(name), name, fields) {
+        Some(kind) => (kind, false),
+        None => (KernelEvent::Other { name }, true),
+    }
+}
+
+// The number of an event's name.
+fn name_of(meta: &TraceMeta, place: u32) -> u32
+    ensures { result ≡ name_of meta.now place }
+{
+    match meta.event(place) {
+        Some((_, parts)) => parts.name,
+        None => 0,
+    }
+}
+
+// The event of a tracepoint, where all fields are there that it needs.
+fn event_of(tracepoint: Tracepoint, name: u32, fields: Fields<'_>) -> Option<KernelEvent>
+    ensures { result ≡ event_of tracepoint name fields.entry.table.now fields.entry.root.now }
+{
+    match tracepoint {
+        Tracepoint::Switch => switch(fields),
+        Tracepoint::Wakeup => Some(wakeup_fields(fields)?.wakeup()),
+        Tracepoint::WakeupNew => Some(wakeup_fields(fields)?.wakeup_new()),
+        Tracepoint::Waking => Some(wakeup_fields(fields)?.waking()),
+        Tracepoint::Fork => fork(fields),
+        Tracepoint::Migrate => migrate(fields),
+        Tracepoint::Process => process(fields),
+        other => other_event_of(other, name, fields),
+    }
+}
+
+// The event of a tracepoint that has one number, or a call, a segment or a request.
+fn other_event_of(tracepoint: Tracepoint, name: u32, fields: Fields<'_>) -> Option<KernelEvent>
+    ensures { result ≡ other_event_of tracepoint name fields.entry.table.now fields.entry.root.now }
+{
+    Some(match tracepoint {
+        Tracepoint::Exit => KernelEvent::Exit {
+            tid: small(fields, b"tid")?,
+        },
+        Tracepoint::Free => KernelEvent::Free {
+            tid: small(fields, b"tid")?,
+        },
+        Tracepoint::IrqIn => KernelEvent::IrqIn {
+            irq: small(fields, b"irq")?,
+        },
+        Tracepoint::IrqOut => KernelEvent::IrqOut {
+            irq: small(fields, b"irq")?,
+        },
+        Tracepoint::SoftIn => KernelEvent::SoftIn {
+            vec: small(fields, b"vec")?,
+        },
+        Tracepoint::SoftOut => KernelEvent::SoftOut {
+            vec: small(fields, b"vec")?,
+        },
+        Tracepoint::CallIn => KernelEvent::CallIn { name },
+        Tracepoint::CallOut => KernelEvent::CallOut { name },
+        Tracepoint::Send => KernelEvent::Send {
+            key: segment(fields)?,
+        },
+        Tracepoint::Receive => KernelEvent::Receive {
+            key: segment(fields)?,
+        },
+        Tracepoint::DiskIssue => disk_request(fields)?.issue(),
+        Tracepoint::DiskDone => disk_request(fields)?.done(),
+        _ => KernelEvent::Other { name },
+    })
+}
+
+fn switch(fields: Fields<'_>) -> Option<KernelEvent>
+    ensures { result ≡ switch fields.entry.table.now fields.entry.root.now }
+{
+    let prev_state = state(fields, b"prev_state")?;
+    let prev_tid = small(fields, b"prev_tid")?;
+    let next_tid = small(fields, b"next_tid")?;
+    let prev_prio = priority(fields, b"prev_prio")?;
+    let next_prio = priority(fields, b"next_prio")?;
+    let prev_comm = comm(fields, b"prev_comm")?;
+    let next_comm = comm(fields, b"next_comm")?;
+    Some(KernelEvent::Switch {
+        prev_state,
+        prev_tid,
+        next_tid,
+        prev_prio,
+        next_prio,
+        prev_comm,
+        next_comm,
+    })
+}
+
+/// The fields of a wakeup of any of its three kinds.
+#[derive(Clone, Copy)]
+struct Woken {
+    tid: u32,
+    comm: Comm,
+    prio: i32,
+    target_cpu: u32,
+}
+
+impl Woken {
+    ghost use Rattle.trace_types.specs.declared.event.KernelEvent.TheVariants as kind;
+
+    fn wakeup(self) -> KernelEvent
+        ensures { result ≡ kind.Wakeup self.tid self.comm self.prio self.target_cpu }
+    {
+        KernelEvent::Wakeup {
+            tid: self.tid,
+            comm: self.comm,
+            prio: self.prio,
+            target_cpu: self.target_cpu,
+        }
+    }
+
+    fn wakeup_new(self) -> KernelEvent
+        ensures { result ≡ kind.WakeupNew self.tid self.comm self.prio self.target_cpu }
+    {
+        KernelEvent::WakeupNew {
+            tid: self.tid,
+            comm: self.comm,
+            prio: self.prio,
+            target_cpu: self.target_cpu,
+        }
+    }
+
+    fn waking(self) -> KernelEvent
+        ensures { result ≡ kind.Waking self.tid self.comm self.prio self.target_cpu }
+    {
+        KernelEvent::Waking {
+            tid: self.tid,
+            comm: self.comm,
+            prio: self.prio,
+            target_cpu: self.target_cpu,
+        }
+    }
+}
+
+fn wakeup_fields(fields: Fields<'_>) -> Option<Woken>
+    ensures { result ≡ wakeup_fields fields.entry.table.now fields.entry.root.now }
+{
+    let tid = small(fields, b"tid")?;
+    let comm = comm(fields, b"comm")?;
+    let prio = priority(fields, b"prio")?;
+    let target_cpu = small(fields, b"target_cpu")?;
+    Some(Woken {
+        tid,
+        comm,
+        prio,
+        target_cpu,
+    })
+}
+
+fn fork(fields: Fields<'_>) -> Option<KernelEvent>
+    ensures { result ≡ fork fields.entry.table.now fields.entry.root.now }
+{
+    let parent_tid = small(fields, b"parent_tid")?;
+    let child_tid = small(fields, b"child_tid")?;
+    let child_comm = comm(fields, b"child_comm")?;
+    Some(KernelEvent::Fork {
+        parent_tid,
+        child_tid,
+        child_comm,
+    })
+}
+
+fn migrate(fields: Fields<'_>) -> Option<KernelEvent>
+    ensures { result ≡ migrate fields.entry.table.now fields.entry.root.now }
+{
+    let tid = small(fields, b"tid")?;
+    let dest_cpu = small(fields, b"dest_cpu")?;
+    Some(KernelEvent::Migrate { tid, dest_cpu })
+}
+
+fn process(fields: Fields<'_>) -> Option<KernelEvent>
+    ensures { result ≡ process fields.entry.table.now fields.entry.root.now }
+{
+    let tid = small(fields, b"tid")?;
+    let ppid = small(fields, b"ppid")?;
+    let name = comm(fields, b"name")?;
+    let status = small(fields, b"status")?;
+    Some(KernelEvent::Process {
+        tid,
+        ppid,
+        name,
+        status,
+    })
+}
+
+/// A request of a disk.
+#[derive(Clone, Copy)]
+struct Request {
+    sector: u64,
+    dev: u32,
+    nr_sector: u32,
+}
+
+impl Request {
+    ghost use Rattle.trace_types.specs.declared.event.KernelEvent.TheVariants as kind;
+
+    fn issue(self) -> KernelEvent
+        ensures { result ≡ kind.DiskIssue self.sector self.dev self.nr_sector }
+    {
+        KernelEvent::DiskIssue {
+            sector: self.sector,
+            dev: self.dev,
+            nr_sector: self.nr_sector,
+        }
+    }
+
+    fn done(self) -> KernelEvent
+        ensures { result ≡ kind.DiskDone self.sector self.dev self.nr_sector }
+    {
+        KernelEvent::DiskDone {
+            sector: self.sector,
+            dev: self.dev,
+            nr_sector: self.nr_sector,
+        }
+    }
+}
+
+fn disk_request(fields: Fields<'_>) -> Option<Request>
+    ensures { result ≡ disk_request fields.entry.table.now fields.entry.root.now }
+{
+    let sector = of_64(fields, b"sector")?;
+    let dev = of_32(fields, b"dev")?;
+    let nr_sector = of_32(fields, b"nr_sector")?;
+    Some(Request {
+        sector,
+        dev,
+        nr_sector,
+    })
+}

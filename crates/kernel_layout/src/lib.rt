@@ -1,0 +1,12 @@
+//! What kernel events are, by their names and fields (LTTng's kernel tracepoints).
+#![tactic(auto)]
+
+mod kinds;
+mod layout;
+mod needed;
+mod segments;
+mod tracepoint;
+
+pub use kinds::kind_of;
+pub use layout::Layout;
+pub use tracepoint::Tracepoint;

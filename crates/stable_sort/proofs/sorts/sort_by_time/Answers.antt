@@ -1,0 +1,12 @@
+use Rattle.std.proofs.Common.{rules}
+use Rattle.std.proofs.lemmas.List.Sorted.{IsNonDecreasingBy-from_sort_by_key, answers_always}
+use Rattle.trace_types.specs.declared.event.Event.{Event}
+use Rattle.stable_sort.proofs.Unique.{from_std}
+use Rattle.stable_sort.proofs.sorts.sort_by_time.Goals as goal
+
+pub returns : goal.returns
+returns c =
+    let s = c.in_ok-sort_by_key.ensures in
+    from_std (λ (e : Event). e.time) c.args.events.now c.sort_by_key.new.self
+    (IsNonDecreasingBy-from_sort_by_key (λ (e : Event). e.time) c.sort_by_key.new.self s.sorted (λ a r f k. search rules))
+    (s.stable (λ (e : Event). e.time) (answers_always _ _ _ (λ f a r f' k. search rules)))
