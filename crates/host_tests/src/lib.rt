@@ -3,3 +3,5 @@
 
 #[cfg(test)]
 mod hosts;
+#[cfg(test)]
+mod limits;
