@@ -103,5 +103,8 @@ fn both_at<'a>(
     if both.first.is_none() && is_same_name(first, text) {
         both.first = Some(field);
     }
-    both_in(table, last, first, depth, field, both)
+    match field {
+        Field::Int { .. } => both,
+        _ => both_in(table, last, first, depth, field, both),
+    }
 }
