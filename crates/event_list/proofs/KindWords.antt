@@ -6,7 +6,7 @@ use Rattle.trace_types.specs.declared.event.KernelEvent.{KernelEvent}
 use Rattle.trace_types.specs.declared.event.KernelEvent.TheVariants as kind
 use Rattle.event_list.specs.declared.kind_word.KindWord.{KindWord}
 use Rattle.event_list.specs.declared.kind_word.KindWord.TheVariants.{Switch, Wakeup, WakeupNew, Waking, Fork, Exit, Free, Migrate, IrqIn, IrqOut, SoftIn, SoftOut, Process, Send, Receive, DiskIssue, DiskDone, Lost}
-use Rattle.event_list.specs.Lines.{kind_words, IsKind, IsKindLine}
+use Rattle.event_list.specs.Lines.{plain_words, IsPlain, IsPlainLine}
 use Rattle.event_list.specs.Kinds.{spelling, IsOf}
 use Rattle.event_list.proofs.WordLists.{word, texts}
 
@@ -14,10 +14,10 @@ use Rattle.event_list.proofs.WordLists.{word, texts}
 pub record HasWord (k : KernelEvent) : Type 0 where
   pub word : KindWord
   pub fields : List (List ℕ)
-  pub spelled : kind_words k ≡ spelling word ∷ fields
-  pub is : IsKind k → IsOf word fields k
+  pub spelled : plain_words k ≡ spelling word ∷ fields
+  pub is : IsPlain k → IsOf word fields k
 
-pub has_word : (k : KernelEvent) → IsKind k → HasWord k
+pub has_word : (k : KernelEvent) → IsPlain k → HasWord k
 has_word (kind.Switch s pt nt pp np pc nc) h = record { word = Switch; fields = _; spelled = refl; is = λ g. (s, pt, nt, pp, np, pc, nc, record { spelled = refl; fit = g }, refl) }
 has_word (kind.Wakeup tid comm prio cpu) h = record { word = Wakeup; fields = _; spelled = refl; is = λ g. (tid, comm, prio, cpu, record { spelled = refl; fit = g }, refl) }
 has_word (kind.WakeupNew tid comm prio cpu) h = record { word = WakeupNew; fields = _; spelled = refl; is = λ g. (tid, comm, prio, cpu, record { spelled = refl; fit = g }, refl) }
@@ -39,7 +39,7 @@ has_word (kind.Lost events gap) h = record { word = Lost; fields = _; spelled = 
 has_word k h = absurd h
 
 -- length, fourth and first byte tell the names apart
-mark : List ℕ → ℕ
+unfoldable pub mark : List ℕ → ℕ
 mark name = (length name * 256 + get_or name 3 0) * 256 + get_or name 0 0
 
 named_by : ℕ → KindWord
@@ -87,14 +87,14 @@ named Lost = refl
 same_word : (v w : KindWord) → spelling v ≡ spelling w → v ≡ w
 same_word v w e = sym (named v) ∙ (ap (λ l. named_by (mark l)) e ∙ named w)
 
-first_is : (a b : List ℕ) (xs ys : List (List ℕ)) → a ∷ xs ≡ b ∷ ys → a ≡ b
+pub first_is : (a b : List ℕ) (xs ys : List (List ℕ)) → a ∷ xs ≡ b ∷ ys → a ≡ b
 first_is a b xs ys e = cc
 
-rest_is : (a b : List ℕ) (xs ys : List (List ℕ)) → a ∷ xs ≡ b ∷ ys → xs ≡ ys
+pub rest_is : (a b : List ℕ) (xs ys : List (List ℕ)) → a ∷ xs ≡ b ∷ ys → xs ≡ ys
 rest_is a b xs ys e = cc
 
 -- a name and fields that are no event's of that name begin no line
-none_of : (w : KindWord) (fields : List (List ℕ)) → ((k : KernelEvent) → ¬ (IsOf w fields k)) → (k : KernelEvent) → ¬ (IsKindLine (spelling w ∷ fields) k)
+none_of : (w : KindWord) (fields : List (List ℕ)) → ((k : KernelEvent) → ¬ (IsOf w fields k)) → (k : KernelEvent) → ¬ (IsPlainLine (spelling w ∷ fields) k)
 none_of w fields none k line =
     let h = has_word k line.is_kind in
     let e : spelling w ∷ fields ≡ spelling h.word ∷ h.fields = line.spelling ∙ h.spelled in
@@ -102,18 +102,18 @@ none_of w fields none k line =
     none k (subst (λ v. IsOf v fields k) (sym word) (subst (λ l. IsOf h.word l k) (sym (rest_is _ _ _ _ e)) (h.is line.is_kind)))
 
 -- a word that is no name begins no line
-no_word : (word : List ℕ) (fields : List (List ℕ)) → ((w : KindWord) → word ≢ spelling w) → (k : KernelEvent) → ¬ (IsKindLine (word ∷ fields) k)
+no_word : (word : List ℕ) (fields : List (List ℕ)) → ((w : KindWord) → word ≢ spelling w) → (k : KernelEvent) → ¬ (IsPlainLine (word ∷ fields) k)
 no_word word fields none k line = let h = has_word k line.is_kind in none h.word (first_is _ _ _ _ (line.spelling ∙ h.spelled))
 
 -- no line is empty
-pub no_words : (k : KernelEvent) → ¬ (IsKindLine [] k)
+pub no_words : (k : KernelEvent) → ¬ (IsPlainLine [] k)
 no_words k line = let h = has_word k line.is_kind in empty _ _ (line.spelling ∙ h.spelled)
   where
     empty : (a : List ℕ) (xs : List (List ℕ)) → [] ≢ a ∷ xs
     empty a xs e = absurd (cc)
 
 -- an event of that name is spelled so
-pub line_of : (w : KindWord) (fields : List (List ℕ)) (k : KernelEvent) → IsOf w fields k → IsKindLine (spelling w ∷ fields) k
+pub line_of : (w : KindWord) (fields : List (List ℕ)) (k : KernelEvent) → IsOf w fields k → IsPlainLine (spelling w ∷ fields) k
 line_of Switch fields k (s, pt, nt, pp, np, pc, nc, is, e) = rw (e, is.spelled) (record { spelling = refl; is_kind = is.fit })
 line_of Wakeup fields k (tid, comm, prio, cpu, is, e) = rw (e, is.spelled) (record { spelling = refl; is_kind = is.fit })
 line_of WakeupNew fields k (tid, comm, prio, cpu, is, e) = rw (e, is.spelled) (record { spelling = refl; is_kind = is.fit })
@@ -134,13 +134,13 @@ line_of SoftIn fields k (n, is, e) = rw (e, is.spelled) (record { spelling = ref
 line_of SoftOut fields k (n, is, e) = rw (e, is.spelled) (record { spelling = refl; is_kind = is.below })
 
 -- the same of the words as the code holds them
-pub no_kind_word : (ws : List (Bor (List ℕ))) → 1 ≤ length ws → ((w : KindWord) → word ws 0 ≢ spelling w) → (k : KernelEvent) → ¬ (IsKindLine (texts ws) k)
+pub no_kind_word : (ws : List (Bor (List ℕ))) → 1 ≤ length ws → ((w : KindWord) → word ws 0 ≢ spelling w) → (k : KernelEvent) → ¬ (IsPlainLine (texts ws) k)
 no_kind_word [] some none k = absurd (omega arith)
 no_kind_word (v ∷ vs) some none k = no_word v.now (texts vs) none k
 
-pub no_fields : (ws : List (Bor (List ℕ))) (w : KindWord) → 1 ≤ length ws → word ws 0 ≡ spelling w → ((k : KernelEvent) → ¬ (IsOf w (texts (take (length ws - 1) (drop 1 ws))) k)) → (k : KernelEvent) → ¬ (IsKindLine (texts ws) k)
+pub no_fields : (ws : List (Bor (List ℕ))) (w : KindWord) → 1 ≤ length ws → word ws 0 ≡ spelling w → ((k : KernelEvent) → ¬ (IsOf w (texts (take (length ws - 1) (drop 1 ws))) k)) → (k : KernelEvent) → ¬ (IsPlainLine (texts ws) k)
 no_fields [] w some is none k line = absurd (omega arith)
-no_fields (v ∷ vs) w some is none k line = none_of w (texts vs) (subst (λ l. (k : KernelEvent) → ¬ (IsOf w (texts l) k)) all none) k (subst (λ l. IsKindLine (l ∷ texts vs) k) is line)
+no_fields (v ∷ vs) w some is none k line = none_of w (texts vs) (subst (λ l. (k : KernelEvent) → ¬ (IsOf w (texts l) k)) all none) k (subst (λ l. IsPlainLine (l ∷ texts vs) k) is line)
   where
     all : take (length (v ∷ vs) - 1) vs ≡ vs
     all = ap (λ n. take n vs) (omega arith) ∙ take-length vs

@@ -3,3 +3,10 @@ pub mod WordLists
 pub mod KindWords
 pub mod Spelling
 pub mod Reading
+pub mod KindViews
+pub mod NameLines
+pub mod ByteNames
+pub mod Numbered
+pub mod Options
+pub mod Listing
+pub mod Spaced

@@ -1,5 +1,5 @@
 -- Lines are cut where they end, and words where they do.
-use Rattle.std.proofs.Common.{◌≡◌, ◌≢◌, ℕ, ℤ, pos, negsuc, suc, ◌+◌, ◌/◌, ◌%◌, ◌<◌, ◌^◌, Bool, true, false, if◌then◌else◌, List, [], ◌∷◌, ◌++◌, refl, sym, ap, ◌∙◌, append_assoc, map, Bor, arith, rules, FitsSigned}
+use Rattle.std.proofs.Common.{◌≡◌, ◌≢◌, ℕ, ℤ, pos, negsuc, suc, ◌+◌, ◌/◌, ◌%◌, ◌<◌, ◌^◌, Bool, true, false, if◌then◌else◌, List, [], ◌∷◌, ◌++◌, inl, inr, subst, refl, sym, ap, ◌∙◌, append_assoc, map, Bor, arith, rules, FitsSigned}
 use Rattle.std.specs.Prelude.{flat_map, ◌==◌}
 use Rattle.std.specs.List.{AllByRecursion, slice_split, join_with_byte}
 use Rattle.std.specs.Int.{w32, w64}
@@ -11,11 +11,15 @@ use Rattle.std.proofs.lemmas.List.{map-append}
 use Rattle.trace_types.specs.ByteTexts.{byte_text, spelled, is_plain, hex_digit}
 use Rattle.trace_types.proofs.Decimals.{below_wide, decimal_high}
 use Rattle.trace_types.proofs.Everywhere.{all_weaker, all_both}
-use Rattle.trace_types.specs.declared.event.Merged.{Merged}
+use Rattle.event_list.specs.declared.told.Told.{Told}
+use Rattle.event_list.specs.declared.name_word.NameWord.{NameWord}
+use Rattle.event_list.specs.declared.name_word.NameWord.TheVariants.{CallIn, CallOut, Other}
+use Rattle.event_list.specs.NameWords.{spelling}
+use Rattle.event_list.proofs.KindViews.{by_kind, named_words}
 use Rattle.trace_types.specs.declared.event.KernelEvent.{KernelEvent}
 use Rattle.trace_types.specs.declared.event.KernelEvent.TheVariants.{Switch, Wakeup, WakeupNew, Waking, Fork, Exit, Free, Migrate, IrqIn, IrqOut, SoftIn, SoftOut, Process, Send, Receive, DiskIssue, DiskDone, Lost}
 use Rattle.trace_types.specs.declared.segment.SegKey.{SegKey}
-use Rattle.event_list.specs.Lines.{kind_words, woken_words, segment_words, request_words, IsSegKey, IsRequested, words_of, IsKind, IsWoken, IsEvent}
+use Rattle.event_list.specs.Lines.{kind_words, plain_words, woken_words, segment_words, request_words, IsSegKey, IsRequested, told_words, IsKind, IsPlain, IsWoken, IsTold}
 
 -- every byte of the word is past the space
 abbrev pub IsWord : List ℕ → Type 0
@@ -100,33 +104,42 @@ one_word : (gap : Bool) → IsWord (decimal (if gap then 1 else 0))
 one_word true = number 1 2 (omega arith) (omega arith)
 one_word false = number 0 2 (omega arith) (omega arith)
 
-kind_are_words : (k : KernelEvent) → IsKind k → AreWords (kind_words k)
-kind_are_words (Switch s pt nt pp np pc nc) h =
+plain_are_words : (k : KernelEvent) → IsPlain k → AreWords (plain_words k)
+plain_are_words (Switch s pt nt pp np pc nc) h =
     let prev : IsWord (decimal pt) = number pt (2 ^ 31) h.0 (omega arith) in
     let next : IsWord (decimal nt) = number nt (2 ^ 31) h.4 (omega arith) in
     (search rules, (prev, (byte_text_word pc, (signed_word pp (mag_32 pp h.2), (signed_word s (mag_64 s h.3), (next, (byte_text_word nc, (signed_word np (mag_32 np h.6), tt))))))))
-kind_are_words (Wakeup tid comm prio cpu) h = (search rules, woken_are_words tid comm prio cpu h)
-kind_are_words (WakeupNew tid comm prio cpu) h = (search rules, woken_are_words tid comm prio cpu h)
-kind_are_words (Waking tid comm prio cpu) h = (search rules, woken_are_words tid comm prio cpu h)
-kind_are_words (Fork parent child comm) h = (search rules, (small parent h.0, (small child h.1, (byte_text_word comm, tt))))
-kind_are_words (Exit tid) h = (search rules, (small tid h, tt))
-kind_are_words (Free tid) h = (search rules, (small tid h, tt))
-kind_are_words (Migrate tid cpu) h = (search rules, (small tid h.0, (small cpu h.1, tt)))
-kind_are_words (IrqIn irq) h = (search rules, (small irq h, tt))
-kind_are_words (IrqOut irq) h = (search rules, (small irq h, tt))
-kind_are_words (SoftIn vec) h = (search rules, (small vec h, tt))
-kind_are_words (SoftOut vec) h = (search rules, (small vec h, tt))
-kind_are_words (Process tid ppid name status) h = (search rules, (small tid h.0, (small ppid h.1, (byte_text_word name, (small status h.3, tt)))))
-kind_are_words (Send key) h = (search rules, segment_are_words key h)
-kind_are_words (Receive key) h = (search rules, segment_are_words key h)
-kind_are_words (DiskIssue sector dev count) h = (search rules, request_are_words sector dev count h)
-kind_are_words (DiskDone sector dev count) h = (search rules, request_are_words sector dev count h)
-kind_are_words (Lost events gap) h = (search rules, (decimal_word events (wide events h), (one_word gap, tt)))
-kind_are_words k h = absurd h
+plain_are_words (Wakeup tid comm prio cpu) h = (search rules, woken_are_words tid comm prio cpu h)
+plain_are_words (WakeupNew tid comm prio cpu) h = (search rules, woken_are_words tid comm prio cpu h)
+plain_are_words (Waking tid comm prio cpu) h = (search rules, woken_are_words tid comm prio cpu h)
+plain_are_words (Fork parent child comm) h = (search rules, (small parent h.0, (small child h.1, (byte_text_word comm, tt))))
+plain_are_words (Exit tid) h = (search rules, (small tid h, tt))
+plain_are_words (Free tid) h = (search rules, (small tid h, tt))
+plain_are_words (Migrate tid cpu) h = (search rules, (small tid h.0, (small cpu h.1, tt)))
+plain_are_words (IrqIn irq) h = (search rules, (small irq h, tt))
+plain_are_words (IrqOut irq) h = (search rules, (small irq h, tt))
+plain_are_words (SoftIn vec) h = (search rules, (small vec h, tt))
+plain_are_words (SoftOut vec) h = (search rules, (small vec h, tt))
+plain_are_words (Process tid ppid name status) h = (search rules, (small tid h.0, (small ppid h.1, (byte_text_word name, (small status h.3, tt)))))
+plain_are_words (Send key) h = (search rules, segment_are_words key h)
+plain_are_words (Receive key) h = (search rules, segment_are_words key h)
+plain_are_words (DiskIssue sector dev count) h = (search rules, request_are_words sector dev count h)
+plain_are_words (DiskDone sector dev count) h = (search rules, request_are_words sector dev count h)
+plain_are_words (Lost events gap) h = (search rules, (decimal_word events (wide events h), (one_word gap, tt)))
+plain_are_words k h = absurd h
 
-pub are_words : (m : Merged) → IsEvent m → AreWords (words_of m)
-are_words m h =
-    (number m.key (2 ^ 62) h.key (omega arith), (number m.event.host 64 h.host (omega arith), (number m.event.cpu (2 ^ 32) h.cpu (omega arith), (number m.event.time (2 ^ 62) h.time.1 (omega arith), kind_are_words m.event.kind h.kind))))
+name_word : (w : NameWord) → IsWord (spelling w)
+name_word CallIn = search rules
+name_word CallOut = search rules
+name_word Other = search rules
+
+kind_are_words : (name : List ℕ) (k : KernelEvent) → IsKind name k → AreWords (kind_words (name ∷ []) k)
+kind_are_words name k h = elim (by_kind name k h) [ inl p ↦ subst AreWords (sym (p.words (name ∷ []))) (plain_are_words k p.plain) | inr n ↦ subst AreWords (sym (named_words name k n)) (name_word n.word, (byte_text_word name, tt)) ]
+
+pub are_words : (t : Told) → IsTold t → AreWords (told_words t)
+are_words t h =
+    let m = t.event in
+    (number m.key (2 ^ 62) h.key (omega arith), (number m.event.host 64 h.host (omega arith), (number m.event.cpu (2 ^ 32) h.cpu (omega arith), (number m.event.time (2 ^ 62) h.time.1 (omega arith), kind_are_words t.name m.event.kind h.kind))))
 
 -- words that are joined by spaces are cut at the spaces
 split_word : (w rest : List ℕ) → IsWord w → slice_split (λ b. b == 32) (w ++ 32 ∷ rest) ≡ w ∷ slice_split (λ b. b == 32) rest

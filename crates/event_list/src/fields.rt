@@ -5,7 +5,7 @@ ghost use Rattle.event_list.specs.declared.kind_word.KindWord.TheVariants.{Switc
 ghost use Rattle.trace_types.specs.declared.event.KernelEvent.{KernelEvent};
 
 use crate::thread::{read_small, read_thread};
-use trace_types::{Comm, KernelEvent, read_comm, read_signed};
+use trace_types::{KernelEvent, Woken, read_comm, read_signed};
 
 /// Reads the seven fields of a switch.
 pub fn read_switch(fields: &[&[u8]]) -> Option<KernelEvent>
@@ -36,52 +36,6 @@ pub fn read_switch(fields: &[&[u8]]) -> Option<KernelEvent>
         prev_comm: prev.comm,
         next_comm: next.comm,
     })
-}
-
-/// The fields of a wakeup of any of its three kinds.
-#[derive(Drop)]
-pub struct Woken {
-    pub tid: u32,
-    pub comm: Comm,
-    pub prio: i32,
-    pub target_cpu: u32,
-}
-
-impl Woken {
-    ghost use Rattle.trace_types.specs.declared.event.KernelEvent.TheVariants as kind;
-
-    pub fn wakeup(self) -> KernelEvent
-        ensures { result ≡ kind.Wakeup self.tid self.comm self.prio self.target_cpu }
-    {
-        KernelEvent::Wakeup {
-            tid: self.tid,
-            comm: self.comm,
-            prio: self.prio,
-            target_cpu: self.target_cpu,
-        }
-    }
-
-    pub fn wakeup_new(self) -> KernelEvent
-        ensures { result ≡ kind.WakeupNew self.tid self.comm self.prio self.target_cpu }
-    {
-        KernelEvent::WakeupNew {
-            tid: self.tid,
-            comm: self.comm,
-            prio: self.prio,
-            target_cpu: self.target_cpu,
-        }
-    }
-
-    pub fn waking(self) -> KernelEvent
-        ensures { result ≡ kind.Waking self.tid self.comm self.prio self.target_cpu }
-    {
-        KernelEvent::Waking {
-            tid: self.tid,
-            comm: self.comm,
-            prio: self.prio,
-            target_cpu: self.target_cpu,
-        }
-    }
 }
 
 /// Reads the four fields of a wakeup.

@@ -7,7 +7,7 @@ ghost use Rattle.event_list.specs.Kinds.{IsLoss, IsOf, IsRequest, IsSegment};
 ghost use Rattle.event_list.specs.declared.kind_word.KindWord.TheVariants.{Lost};
 ghost use Rattle.trace_types.specs.declared.event.KernelEvent.{KernelEvent};
 
-use trace_types::{KernelEvent, SegKey, read_number, read_number_below};
+use trace_types::{KernelEvent, Request, SegKey, read_number, read_number_below};
 
 /// Reads the seven fields of a segment.
 pub fn read_segment(fields: &[&[u8]]) -> Option<SegKey>
@@ -26,38 +26,6 @@ pub fn read_segment(fields: &[&[u8]]) -> Option<SegKey>
         dest_port: read_16(dest_port)?,
         flags: read_16(flags)?,
     })
-}
-
-/// A request of a disk.
-#[derive(Drop)]
-pub struct Request {
-    pub sector: u64,
-    pub dev: u32,
-    pub nr_sector: u32,
-}
-
-impl Request {
-    ghost use Rattle.trace_types.specs.declared.event.KernelEvent.TheVariants as kind;
-
-    pub fn issue(self) -> KernelEvent
-        ensures { result ≡ kind.DiskIssue self.sector self.dev self.nr_sector }
-    {
-        KernelEvent::DiskIssue {
-            sector: self.sector,
-            dev: self.dev,
-            nr_sector: self.nr_sector,
-        }
-    }
-
-    pub fn done(self) -> KernelEvent
-        ensures { result ≡ kind.DiskDone self.sector self.dev self.nr_sector }
-    {
-        KernelEvent::DiskDone {
-            sector: self.sector,
-            dev: self.dev,
-            nr_sector: self.nr_sector,
-        }
-    }
 }
 
 /// Reads the three fields of a request.

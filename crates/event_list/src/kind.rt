@@ -1,19 +1,45 @@
 //! The kind of an event, as words.
-ghost use Rattle.std.specs.Prelude.{IfSome, IfNone, map};
-ghost use Rattle.event_list.specs.Lines.{IsKindLine};
+ghost use Rattle.std.specs.Prelude.{IfOk, IfSome, IfNone, map};
+ghost use Rattle.event_list.specs.Lines.{IsKindLine, IsPlainLine};
 ghost use Rattle.event_list.specs.Kinds.{IsOf};
+ghost use Rattle.event_list.specs.declared.told.ToldKind.{ToldKind};
 ghost use Rattle.trace_types.specs.declared.event.KernelEvent.{KernelEvent};
 
 use crate::fields::{read_fork, read_migrate, read_process, read_switch, read_woken};
 use crate::io_fields::{read_loss, read_request, read_segment};
 use crate::kind_word::{KindWord, read_kind_word};
+use crate::name_word::{read_name, read_name_word};
 use crate::one::read_one;
-use trace_types::KernelEvent;
+use crate::told::ToldKind;
+use std::alloc::Global;
+use trace_types::{KernelEvent, OutOfMemory, Text};
 
-/// Reads the words of a kind, its name and its fields.
-pub fn read_kind(words: &[&[u8]]) -> Option<KernelEvent>
-    ensures found { IfSome result (λ k. IsKindLine (map (λ w. w.now) words.now) k) }
-    ensures none { IfNone result ((k : KernelEvent) → ¬ (IsKindLine (map (λ w. w.now) words.now) k)) }
+/// Reads the words of a kind, with the name of its event where it carries one.
+pub fn read_kind(alloc: Global, words: &[&[u8]]) -> Result<Option<ToldKind>, OutOfMemory>
+    ensures found { IfOk result (λ read. IfSome read (λ t. IsKindLine (map (λ w. w.now) words.now) t)) }
+    ensures none { IfOk result (λ read. IfNone read ((t : ToldKind) → ¬ (IsKindLine (map (λ w. w.now) words.now) t))) }
+{
+    let [word, fields @ ..] = words else {
+        return Ok(None);
+    };
+    if let Some(word) = read_name_word(word) {
+        let Some(name) = read_name(alloc, word, fields)? else {
+            return Ok(None);
+        };
+        let kind = word.kind(0);
+        return Ok(Some(ToldKind { kind, name }));
+    }
+    let Some(kind) = read_plain(words) else {
+        return Ok(None);
+    };
+    let name = Text::from_bytes(alloc, &[])?;
+    Ok(Some(ToldKind { kind, name }))
+}
+
+// Reads the words of a kind that carries no name of an event: its own name, and its fields.
+fn read_plain(words: &[&[u8]]) -> Option<KernelEvent>
+    ensures found { IfSome result (λ k. IsPlainLine (map (λ w. w.now) words.now) k) }
+    ensures none { IfNone result ((k : KernelEvent) → ¬ (IsPlainLine (map (λ w. w.now) words.now) k)) }
 {
     let [word, fields @ ..] = words else {
         return None;

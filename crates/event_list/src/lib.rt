@@ -7,10 +7,18 @@ mod kind;
 mod kind_word;
 mod line;
 mod list;
+mod name_word;
+mod names;
+mod numbering;
 mod one;
+mod place;
 mod thread;
+mod told;
 mod trace;
 mod words;
+mod write;
+mod write_fields;
 
 pub use list::{ListError, read_list};
 pub use trace::{MergedTrace, NameList};
+pub use write::write_line;

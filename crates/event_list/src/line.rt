@@ -1,32 +1,40 @@
 //! One line of an event list, as words.
-ghost use Rattle.std.specs.Prelude.{IfSome, IfNone, map};
+ghost use Rattle.std.specs.Prelude.{IfOk, IfSome, IfNone, map};
 ghost use Rattle.event_list.specs.Lines.{IsLine};
-ghost use Rattle.trace_types.specs.declared.event.Merged.{Merged};
+ghost use Rattle.event_list.specs.declared.told.Told.{Told};
 
 use crate::kind::read_kind;
-use trace_types::{Event, Merged, TIME_END, read_number_below};
+use crate::place::read_place;
+use crate::told::Told;
+use std::alloc::Global;
+use trace_types::{Event, Merged, OutOfMemory};
 
-/// Reads the words of a line. `None` comes exactly where they are no event's words.
-pub fn read_event(words: &[&[u8]]) -> Option<Merged>
-    ensures found { IfSome result (λ m. IsLine (map (λ w. w.now) words.now) m) }
-    ensures none { IfNone result ((m : Merged) → ¬ (IsLine (map (λ w. w.now) words.now) m)) }
+/// Reads the words of a line. `None` comes exactly where they are no event's words, and the only error is want of
+/// memory.
+pub fn read_event(alloc: Global, words: &[&[u8]]) -> Result<Option<Told>, OutOfMemory>
+    ensures found { IfOk result (λ read. IfSome read (λ t. IsLine (map (λ w. w.now) words.now) t)) }
+    ensures none { IfOk result (λ read. IfNone read ((t : Told) → ¬ (IsLine (map (λ w. w.now) words.now) t))) }
 {
     let [key, host, cpu, time, kind @ ..] = words else {
-        return None;
+        return Ok(None);
     };
-    let key = read_number_below(key, TIME_END)?;
-    let host = read_number_below(host, 64)? as u32;
-    let cpu = read_number_below(cpu, 1 << 32)? as u32;
-    let time = read_number_below(time, TIME_END)?;
-    if time == 0 {
-        return None;
-    }
-    let kind = read_kind(kind)?;
+    let Some(place) = read_place(key, host, cpu, time) else {
+        return Ok(None);
+    };
+    let Some(told) = read_kind(alloc, kind)? else {
+        return Ok(None);
+    };
     let event = Event {
-        time,
-        host,
-        cpu,
-        kind,
+        time: place.time,
+        host: place.host,
+        cpu: place.cpu,
+        kind: told.kind,
     };
-    Some(Merged { key, event })
+    Ok(Some(Told {
+        event: Merged {
+            key: place.key,
+            event,
+        },
+        name: told.name,
+    }))
 }

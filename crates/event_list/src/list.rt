@@ -1,12 +1,16 @@
 //! Reading a whole event list.
-ghost use Rattle.std.specs.Prelude.{◌≡◌, ◌<◌, ◌+◌, ℕ, List, [], IfOk, Err, length, replicate};
-ghost use Rattle.event_list.specs.Lines.{IsEventList, IsFirstBad, AreLines, EndsBehind};
+ghost use Rattle.std.specs.Prelude.{◌≡◌, ◌≤◌, ◌<◌, ◌+◌, ℕ, List, IfOk, Err, length, take};
+ghost use Rattle.event_list.specs.Lines.{AreLines, EndsBehind, HasMany, IsCrowded, IsEventList, IsFirstBad, MAX_EVENTS};
 ghost use Rattle.std.specs.List.{AllByRecursion};
+ghost use Rattle.event_list.specs.Names.{IsTrace, lines_of, names_at};
+ghost use Rattle.event_list.specs.Numbering.{IsNumbered};
 ghost use Rattle.event_list.specs.Order.{host_count};
-ghost use Rattle.event_list.specs.declared.list.ListError.TheVariants.{BadLine};
-ghost use Rattle.trace_types.specs.declared.event.Merged.{Merged};
+ghost use Rattle.event_list.specs.declared.list.ListError.TheVariants.{BadLine, TooManyEvents};
+ghost use Rattle.event_list.specs.declared.told.Told.{Told};
 
 use crate::line::read_event;
+use crate::names::NameTable;
+use crate::numbering::Numbering;
 use crate::trace::{MergedTrace, NameList};
 use crate::words::split_words;
 use std::alloc::{AllocFailed, Global};
@@ -14,10 +18,14 @@ use trace_types::{Merged, OutOfMemory, cut_at};
 
 const FIRST_LINE: &[u8] = b"hosttrace events 1";
 
+/// How many events a list may have.
+const MAX_EVENTS: usize = 2_097_152;
+
 /// Why a text is no event list. Lines count from 1.
 #[derive(Clone, Copy, Debug, PartialEq, Eq)]
 pub enum ListError {
     BadLine { line: u64 },
+    TooManyEvents,
     OutOfMemory,
 }
 
@@ -43,13 +51,17 @@ impl From<OutOfMemory> for ListError {
     }
 }
 
-/// Reads an event list: its events in order, and an empty list of names for each host from 0 to
-/// the greatest. A bad line is the first one that isn't in the format.
+/// Reads an event list: its events in order, with numbers of their names, and the names of each host from 0 to the
+/// greatest, in the order in which they first appear. A bad line is the first one that isn't in the format. A list
+/// has too many events where more than 2,097,152 stand before a bad line or in all.
 pub fn read_list(alloc: Global, bytes: &[u8]) -> Result<MergedTrace, ListError>
-    ensures events { IfOk result (λ trace. IsEventList bytes.now trace.events.items) }
-    ensures names { IfOk result (λ trace. trace.names.items ≡ replicate (host_count trace.events.items) []) }
-    ensures bad { (line : ℕ) → result ≡ Err (BadLine line) → (events : List Merged) → ¬ (IsEventList bytes.now events) }
+    ensures list { IfOk result (λ trace. (tolds : List Told) × IsEventList bytes.now tolds × IsTrace tolds trace) }
+    ensures few { IfOk result (λ trace. length trace.events.items ≤ MAX_EVENTS) }
+    ensures again { IfOk result (λ trace. bytes.now ≡ lines_of (names_at trace.names.items) trace.events.items) }
+    ensures bad { (line : ℕ) → result ≡ Err (BadLine line) → (tolds : List Told) → ¬ (IsEventList bytes.now tolds) }
     ensures line { (line : ℕ) → result ≡ Err (BadLine line) → IsFirstBad bytes.now line }
+    ensures many { result ≡ Err TooManyEvents → IsCrowded bytes.now }
+    ensures all { result ≡ Err TooManyEvents → (tolds : List Told) → IsEventList bytes.now tolds → MAX_EVENTS < length tolds }
 {
     let Some((first, text)) = cut_at(bytes, b'\n') else {
         return Err(ListError::BadLine { line: 1 });
@@ -57,37 +69,43 @@ pub fn read_list(alloc: Global, bytes: &[u8]) -> Result<MergedTrace, ListError>
     if first != FIRST_LINE {
         return Err(ListError::BadLine { line: 1 });
     }
-    let events = read_lines(alloc, text)?;
-    let names = empty_names(alloc, host_count(&events))?;
+    let Numbering { events, tables } = read_lines(alloc, text)?;
+    let names = name_lists(alloc, &tables, host_count(&events))?;
     Ok(MergedTrace { events, names })
 }
 
 // The events of the lines behind the first.
-fn read_lines(alloc: Global, text: &[u8]) -> Result<Vec<Merged>, ListError>
-    ensures events { IfOk result (λ events. AreLines 0 events.items text.now) }
-    ensures bad { (line : ℕ) → result ≡ Err (BadLine line) → (events : List Merged) → ¬ (AreLines 0 events text.now) }
-    ensures line { (line : ℕ) → result ≡ Err (BadLine line) → (events : List Merged) × EndsBehind text.now events × (line ≡ length events + 2) }
+fn read_lines(alloc: Global, text: &[u8]) -> Result<Numbering, ListError>
+    ensures lines { IfOk result (λ read. (tolds : List Told) × AreLines 0 tolds text.now × IsNumbered tolds read) }
+    ensures few { IfOk result (λ read. length read.events.items ≤ MAX_EVENTS) }
+    ensures bad { (line : ℕ) → result ≡ Err (BadLine line) → (tolds : List Told) → ¬ (AreLines 0 tolds text.now) }
+    ensures line { (line : ℕ) → result ≡ Err (BadLine line) → (tolds : List Told) × EndsBehind text.now tolds × (line ≡ length tolds + 2) }
+    ensures many { result ≡ Err TooManyEvents → HasMany text.now }
+    ensures all { result ≡ Err TooManyEvents → (tolds : List Told) → AreLines 0 tolds text.now → MAX_EVENTS < length tolds }
 {
-    let mut events = Vec::new(alloc);
+    let mut read = Numbering::new(alloc)?;
     let mut words = Vec::new(alloc);
     let mut least = 0;
     let mut rest = text;
     while !rest.is_empty() {
         let Some((line, after)) = cut_at(rest, b'\n') else {
-            return Err(bad_line(&events));
+            return Err(bad_line(&read.events));
         };
         split_words(line, &mut words)?;
-        let Some(event) = read_event(&words) else {
-            return Err(bad_line(&events));
+        let Some(told) = read_event(alloc, &words)? else {
+            return Err(bad_line(&read.events));
         };
-        if event.key < least {
-            return Err(bad_line(&events));
+        if told.event.key < least {
+            return Err(bad_line(&read.events));
         }
-        least = event.key;
-        events.push(event)?;
+        if read.events.len() >= MAX_EVENTS {
+            return Err(ListError::TooManyEvents);
+        }
+        least = told.event.key;
+        read.add(told)?;
         rest = after;
     }
-    Ok(events)
+    Ok(read)
 }
 
 // The line behind those of the events, which is bad.
@@ -111,12 +129,14 @@ fn host_count(events: &[Merged]) -> u32
     count
 }
 
-fn empty_names(alloc: Global, hosts: u32) -> Result<Vec<NameList>, OutOfMemory>
-    ensures { IfOk result (λ names. names.items ≡ replicate hosts []) }
+// The names of so many hosts.
+fn name_lists(alloc: Global, tables: &[NameTable], hosts: u32) -> Result<Vec<NameList>, OutOfMemory>
+    requires { hosts ≤ length tables.now }
+    ensures { IfOk result (λ names. names.items ≡ take hosts tables.now) }
 {
     let mut names = Vec::new(alloc);
-    for _ in 0..hosts {
-        names.push(NameList::new(alloc))?;
+    for table in &tables[..hosts as usize] {
+        names.push(NameList::from_slice(alloc, table.as_slice())?)?;
     }
     Ok(names)
 }

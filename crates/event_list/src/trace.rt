@@ -1,9 +1,9 @@
 //! A merge with the names that its events carry.
-ghost use Rattle.std.specs.Prelude.{◌≡◌, []};
+ghost use Rattle.std.specs.Prelude.{◌≡◌, [], IfOk};
 
 use std::alloc::Global;
 use std::marker::Model;
-use trace_types::{Merged, Text};
+use trace_types::{Merged, OutOfMemory, Text};
 
 /// The event names of one host. An event that carries a name has its place in this list.
 #[derive(Debug, Drop)]
@@ -20,13 +20,38 @@ impl Model for NameList {
 }
 
 impl NameList {
-    /// No names.
+    /// No names. It takes no memory.
     pub fn new(alloc: Global) -> NameList
         ensures { result ≡ [] }
     {
         NameList {
             names: Vec::new(alloc),
         }
+    }
+
+    /// These names, which aren't copied.
+    pub fn from_vec(names: Vec<Text>) -> NameList
+        ensures { result ≡ names.items }
+    {
+        NameList { names }
+    }
+
+    /// A copy of these names.
+    pub fn from_slice(alloc: Global, names: &[Text]) -> Result<NameList, OutOfMemory>
+        ensures { IfOk result (λ list. list ≡ names.now) }
+    {
+        let mut copies = Vec::new(alloc);
+        for name in names {
+            copies.push(Text::from_bytes(alloc, name.as_bytes())?)?;
+        }
+        Ok(NameList::from_vec(copies))
+    }
+
+    /// The names, in order.
+    pub fn as_slice(&self) -> &[Text]
+        ensures { result.now ≡ self.now }
+    {
+        self.names.as_slice()
     }
 }
 

@@ -3,7 +3,7 @@ use Rattle.std.proofs.Common.{◌≡◌, ◌⊎◌, inl, inr, ℕ, ◌+◌, ◌�
 use Rattle.std.specs.List.{AllByRecursion}
 use Rattle.std.specs.Prelude.{IfSome, IsSome}
 use Rattle.ht_outside.specs.Files.{Files, bytes_of}
-use Rattle.trace_types.specs.declared.event.Merged.{Merged}
+use Rattle.event_list.specs.declared.told.Told.{Told}
 use Rattle.known_types.specs.Traces.{Trace}
 use Rattle.trace_metadata.specs.Files.{IsTrace}
 use Rattle.trace_metadata.proofs.OneTrace.{not_refused}
@@ -11,18 +11,23 @@ use Rattle.history_core.specs.declared.question.Question.{Question}
 use Rattle.hosttrace.specs.declared.command.Command.{Command}
 use Rattle.hosttrace.specs.declared.command.Command.TheVariants.{Plain}
 use Rattle.hosttrace.specs.declared.command.PlainCommand.{PlainCommand}
-use Rattle.hosttrace.specs.declared.command.PlainCommand.TheVariants.{Check, State, Ask}
+use Rattle.hosttrace.specs.declared.command.PlainCommand.TheVariants.{Check, Events, State, Ask}
+use Rattle.hosttrace.specs.declared.command.Input.{Input}
 use Rattle.hosttrace.specs.declared.command.Input.TheVariants as input
+use Rattle.decode_pool.specs.declared.hosts.HostFiles.{HostFiles}
+use Rattle.decode_pool.specs.Limits.{MAX_EVENTS, MAX_PACKETS, event_count, packet_count}
+use Rattle.hosttrace.specs.Streams.{AreStreamsRead, StreamFits, StreamRefuses, StreamsRefuse, metadata_size, size_of}
+use Rattle.hosttrace.specs.Merges.{FolderTraceRefuses, IsGoodFolder, MergeRefuses}
 use Rattle.hosttrace.specs.declared.status.ListFile.TheVariants.{Events, Questions}
 use Rattle.hosttrace.specs.declared.status.Limit.TheVariants as limit
 use Rattle.hosttrace.specs.declared.status.Status.{Status}
 use Rattle.hosttrace.specs.declared.status.Status.TheVariants.{Done, Usage, Refused, ReadFault, WriteFault, NoMemory}
 use Rattle.hosttrace.specs.declared.status.Refusal.{Refusal}
-use Rattle.hosttrace.specs.declared.status.Refusal.TheVariants.{NoMetadata, BadMetadata, BadList, TooLarge}
+use Rattle.hosttrace.specs.declared.status.Refusal.TheVariants.{NoMetadata, BadMetadata, BadList, TooLarge, TooManyEvents}
 use Rattle.hosttrace.specs.Inputs.{IsList, ListRefuses, AreAsked, QuestionsRefuse}
 use Rattle.hosttrace.specs.Folders.{FILES_LIMIT, HOST_LIMIT, METADATA_LIMIT, AreRead, FoldersRefuse, HasManyNames, IsRead, NamesRefuse, SizeRefuses, metadata_of}
 use Rattle.hosttrace.specs.Hosts.{AreTraces, HostsRefuse, MetadataRefuses}
-use Rattle.hosttrace.specs.Means.{AreChecked, CheckRefuses, IsCrowd, Refuses, IsGood}
+use Rattle.hosttrace.specs.Means.{AreChecked, CheckRefuses, InputRefuses, IsCrowd, IsGood, IsGoodInput, Refuses}
 use Rattle.hosttrace.specs.Outcome.{Seen, Means, IsValid, IsFaultless, IsOutcome}
 use Rattle.hosttrace.proofs.WordPlaces.{same_command}
 
@@ -30,8 +35,9 @@ told : (seen : Option Files) (files : Files) (P : Files → Type 0) → seen ≡
 told seen files P e h = subst (λ o. IfSome o P) e h
 
 -- a good file isn't refused
-good_list : (bytes : List ℕ) (refusal : Refusal) → ListRefuses bytes refusal → (events : List Merged) → IsList bytes events → ⊥
+good_list : (bytes : List ℕ) (refusal : Refusal) → ListRefuses bytes refusal → (tolds : List Told) → IsList bytes tolds → ⊥
 good_list bytes (BadList Events line) h events g = h.1 events g.is_list
+good_list bytes TooManyEvents h tolds g = let few = g.few in absurd (omega (arith, few, h.2 tolds g.is_list))
 good_list bytes (BadList Questions line) h events g = h
 good_list bytes (NoMetadata host) h events g = h
 good_list bytes (BadMetadata host cause) h events g = h
@@ -41,9 +47,11 @@ good_list bytes (TooLarge limit.Metadata) h events g = h
 good_list bytes (TooLarge limit.Files) h events g = h
 good_list bytes (TooLarge limit.File) h events g = let small = g.small in absurd (omega (arith, h, small))
 good_list bytes (TooLarge limit.Questions) h events g = h
+good_list bytes (TooLarge limit.Packets) h events g = h
 
 good_questions : (bytes : List ℕ) (refusal : Refusal) → QuestionsRefuse bytes refusal → (questions : List Question) → AreAsked bytes questions → ⊥
 good_questions bytes (BadList Events line) h questions g = h
+good_questions bytes TooManyEvents h questions g = h
 good_questions bytes (BadList Questions line) h questions g = h.2 questions g.are_questions
 good_questions bytes (NoMetadata host) h questions g = h
 good_questions bytes (BadMetadata host cause) h questions g = h
@@ -52,6 +60,7 @@ good_questions bytes (TooLarge limit.Names) h questions g = h
 good_questions bytes (TooLarge limit.Metadata) h questions g = h
 good_questions bytes (TooLarge limit.Files) h questions g = h
 good_questions bytes (TooLarge limit.File) h questions g = let small = g.small in absurd (omega (arith, h, small))
+good_questions bytes (TooLarge limit.Packets) h questions g = h
 good_questions bytes (TooLarge limit.Questions) h questions g = let few = g.few in absurd (omega (arith, h.1, few))
 
 -- folders that can be read aren't refused
@@ -61,6 +70,7 @@ there_and_not file there none = let h : IsSome {T = List ℕ} None = subst IsSom
 good_names : (files : Files) (host before : ℕ) (dir : List ℕ) (refusal : Refusal) → NamesRefuse files host dir refusal → ¬ (HasManyNames files dir) → IsRead files before dir → ⊥
 good_names files host before dir (TooLarge limit.Names) h few is = few h
 good_names files host before dir (NoMetadata n) h few is = there_and_not (files dir (codes "metadata")) is.there h.2
+good_names files host before dir TooManyEvents h few is = h
 good_names files host before dir (BadMetadata n cause) h few is = h
 good_names files host before dir (BadList file line) h few is = h
 good_names files host before dir (TooLarge limit.Hosts) h few is = h
@@ -68,17 +78,20 @@ good_names files host before dir (TooLarge limit.Metadata) h few is = h
 good_names files host before dir (TooLarge limit.File) h few is = h
 good_names files host before dir (TooLarge limit.Files) h few is = h
 good_names files host before dir (TooLarge limit.Questions) h few is = h
+good_names files host before dir (TooLarge limit.Packets) h few is = h
 
 good_size : (before size : ℕ) (refusal : Refusal) → SizeRefuses before size refusal → size ≤ METADATA_LIMIT → before + size ≤ FILES_LIMIT → ⊥
 good_size before size (TooLarge limit.Metadata) h small all = absurd (omega (arith, h, small))
 good_size before size (TooLarge limit.Files) h small all = absurd (omega (arith, h.1, all))
 good_size before size (TooLarge limit.Names) h small all = h
 good_size before size (NoMetadata n) h small all = h
+good_size before size TooManyEvents h small all = h
 good_size before size (BadMetadata n cause) h small all = h
 good_size before size (BadList file line) h small all = h
 good_size before size (TooLarge limit.Hosts) h small all = h
 good_size before size (TooLarge limit.File) h small all = h
 good_size before size (TooLarge limit.Questions) h small all = h
+good_size before size (TooLarge limit.Packets) h small all = h
 
 good_folders : (files : Files) (host before : ℕ) (dirs : List (List ℕ)) (refusal : Refusal) → FoldersRefuse files host before dirs refusal → AllByRecursion (λ dir. ¬ (HasManyNames files dir)) dirs → AreRead files before dirs → ⊥
 good_folders files host before [] refusal h few are = h
@@ -90,6 +103,7 @@ good_folders files host before (dir ∷ dirs) refusal (inr h) few are = good_fol
 good_host : (host : ℕ) (bytes : List ℕ) (refusal : Refusal) (t : Trace) → MetadataRefuses host bytes refusal → IsTrace bytes t → ⊥
 good_host host bytes (BadMetadata n cause) t h is = not_refused bytes t cause is h.1
 good_host host bytes (NoMetadata n) t h is = h
+good_host host bytes TooManyEvents t h is = h
 good_host host bytes (BadList file line) t h is = h
 good_host host bytes (TooLarge what) t h is = h
 
@@ -106,7 +120,9 @@ good_crowd folders (TooLarge limit.Metadata) h few = h
 good_crowd folders (TooLarge limit.File) h few = h
 good_crowd folders (TooLarge limit.Files) h few = h
 good_crowd folders (TooLarge limit.Questions) h few = h
+good_crowd folders (TooLarge limit.Packets) h few = h
 good_crowd folders (NoMetadata n) h few = h
+good_crowd folders TooManyEvents h few = h
 good_crowd folders (BadMetadata n cause) h few = h
 good_crowd folders (BadList file line) h few = h
 
@@ -115,11 +131,55 @@ good_check files folders refusal (inl h) g = good_crowd folders refusal h g.few
 good_check files folders refusal (inr (few, inl h)) g = good_folders files 0 0 folders refusal h g.few_names g.are_read
 good_check files folders refusal (inr (few, inr h)) g = good_hosts 0 (map (metadata_of files) folders) refusal g.traces h.1 g.are_traces
 
+-- a folder within the limits isn't refused
+good_stream : (before size : ℕ) (refusal : Refusal) → StreamRefuses before size refusal → StreamFits before size → ⊥
+good_stream before size (TooLarge limit.File) h fits = absurd (omega (arith, h, fits.0))
+good_stream before size (TooLarge limit.Files) h fits = absurd (omega (arith, h.1, fits.1))
+good_stream before size (TooLarge limit.Hosts) h fits = h
+good_stream before size (TooLarge limit.Names) h fits = h
+good_stream before size (TooLarge limit.Metadata) h fits = h
+good_stream before size (TooLarge limit.Packets) h fits = h
+good_stream before size (TooLarge limit.Questions) h fits = h
+good_stream before size TooManyEvents h fits = h
+good_stream before size (NoMetadata n) h fits = h
+good_stream before size (BadMetadata n cause) h fits = h
+good_stream before size (BadList file line) h fits = h
+
+good_streams : (files : Files) (dir : List ℕ) (before : ℕ) (names : List (List ℕ)) (refusal : Refusal) → StreamsRefuse files dir before names refusal → AreStreamsRead files dir before names → ⊥
+good_streams files dir before [] refusal h are = h
+good_streams files dir before (name ∷ names) refusal (inl h) are = good_stream before (size_of files dir name) refusal h are.0
+good_streams files dir before (name ∷ names) refusal (inr h) are = good_streams files dir (before + size_of files dir name) names refusal h.1 are.1
+
+good_merge : (host : HostFiles) (refusal : Refusal) → MergeRefuses host refusal → packet_count (host ∷ []) ≤ MAX_PACKETS → event_count (host ∷ []) ≤ MAX_EVENTS → ⊥
+good_merge host (TooLarge limit.Packets) h packets events = absurd (omega (arith, h, packets))
+good_merge host TooManyEvents h packets events = absurd (omega (arith, h.1, events))
+good_merge host (TooLarge limit.File) h packets events = h
+good_merge host (TooLarge limit.Files) h packets events = h
+good_merge host (TooLarge limit.Hosts) h packets events = h
+good_merge host (TooLarge limit.Names) h packets events = h
+good_merge host (TooLarge limit.Metadata) h packets events = h
+good_merge host (TooLarge limit.Questions) h packets events = h
+good_merge host (NoMetadata n) h packets events = h
+good_merge host (BadMetadata n cause) h packets events = h
+good_merge host (BadList file line) h packets events = h
+
+good_folder : (files : Files) (dir : List ℕ) (refusal : Refusal) → FolderTraceRefuses files dir refusal → IsGoodFolder files dir → ⊥
+good_folder files dir refusal (inl (inl (inl h))) g = good_names files 0 0 dir refusal h g.few_names g.is_read
+good_folder files dir refusal (inl (inl (inr h))) g = good_size 0 (length (metadata_of files dir)) refusal h.1 g.is_read.small g.is_read.all
+good_folder files dir refusal (inl (inr (read, (names, are, inl h)))) g = good_streams files dir (metadata_size files dir) names refusal h (g.are_read names are)
+good_folder files dir refusal (inl (inr (read, (names, are, inr h)))) g = good_host 0 (metadata_of files dir) refusal g.trace h.1 g.declares
+good_folder files dir refusal (inr (host, is, h)) g = let few = g.few host is in good_merge host refusal h few.0 few.1
+
+good_input : (source : Input) (files : Files) (refusal : Refusal) → InputRefuses source files refusal → IsGoodInput source files → ⊥
+good_input (input.List file) files refusal h g = good_list (bytes_of files [] file) refusal h g.0 g.1
+good_input (input.Folder dir) files refusal h g = good_folder files dir refusal h g
+
 good : (c : PlainCommand) (files : Files) (refusal : Refusal) → Refuses c files refusal → IsGood c files → ⊥
 good (Check folders) files refusal h g = good_check files folders refusal h g
-good (State (input.List file) at) files refusal h g = good_list (bytes_of files [] file) refusal h g.0 g.1
-good (Ask (input.List file) questions) files refusal (inl h) g = good_list (bytes_of files [] file) refusal h g.0.0 g.0.1
-good (Ask (input.List file) questions) files refusal (inr h) g = good_questions (bytes_of files [] questions) refusal h.1 g.1.0 g.1.1
+good (Events folder) files refusal h g = good_folder files folder refusal h g
+good (State source at) files refusal h g = good_input source files refusal h g
+good (Ask source questions) files refusal (inl h) g = good_input source files refusal h g.0
+good (Ask source questions) files refusal (inr h) g = good_questions (bytes_of files [] questions) refusal h.1 g.1.0 g.1.1
 
 plain : Command → PlainCommand
 plain (Plain c) = c

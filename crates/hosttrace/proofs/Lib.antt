@@ -1,12 +1,12 @@
 pub mod Parts
 pub mod WordPlaces
-pub mod RowValues
-pub mod Replayed
-pub mod Listed
 pub mod QuestionLines
-pub mod AnswerLines
 pub mod Refused
 pub mod Written
 pub mod Complete
 pub mod Left
 pub mod Partly
+pub mod Texts
+pub mod StreamsRead
+pub mod Merged
+pub mod FolderTraces

@@ -12,7 +12,8 @@ use Rattle.trace_types.proofs.Decimals.{below_wide, decimal_high}
 use Rattle.trace_types.proofs.Everywhere.{all_weaker, all_both}
 use Rattle.trace_types.proofs.PathWords.{path_word}
 use Rattle.history_core.specs.declared.question.Question.{Question}
-use Rattle.hosttrace.specs.Questions.{question_line, question_text, IsQuestion, IsQuestionLine, AreQuestions, IsFirstBadQuestion}
+use Rattle.hosttrace.specs.Questions.{question_line, question_text, IsQuestionLine, AreQuestions, IsFirstBadQuestion}
+use Rattle.report_views.specs.Asked.{IsQuestion}
 
 abbrev Without : ℕ → List ℕ → Type 0
 Without end = AllByRecursion (λ b. b ≢ end)

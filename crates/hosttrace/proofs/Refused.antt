@@ -1,24 +1,32 @@
 -- What is known of the bytes that were read holds of the file in a store that tells its files.
-use Rattle.std.proofs.Common.{◌≡◌, ℕ, ◌≤◌, List, [], length, Option, Some, None, subst, refl, sym, Result, ◌<◌, ◌^◌}
+use Rattle.std.proofs.Common.{◌≡◌, ℕ, ◌≤◌, List, [], length, map, ◌∷◌, Option, Some, None, subst, refl, sym, Result, ◌<◌, ◌^◌}
 use Rattle.std.specs.Prelude.{IfSome, IfErr, IsErrAnd}
 use Rattle.std.proofs.lemmas.Result.{err_from_is_err_and}
-use Rattle.trace_types.specs.declared.event.Merged.{Merged}
+use Rattle.event_list.specs.declared.told.Told.{Told}
+use Rattle.event_list.specs.declared.trace.MergedTrace.{MergedTrace}
+use Rattle.event_list.specs.Names.{IsTrace, numbered_in, names_of}
+use Rattle.event_list.proofs.Numbered.{still_rise}
 use Rattle.ht_outside.specs.Files.{Files, bytes_of}
-use Rattle.trace_types.proofs.Everywhere.{all_weaker}
-use Rattle.event_list.specs.Lines.{IsEvent, IsEventList, IsFirstBad}
+use Rattle.std.specs.List.{AllByRecursion}
+use Rattle.event_list.specs.Lines.{MAX_EVENTS, IsCrowded, IsEventList, IsFirstBad, IsTold}
 use Rattle.event_list.specs.declared.list.ListError.{ListError}
 use Rattle.event_list.specs.declared.list.ListError.TheVariants as list
 use Rattle.history_core.specs.Agreement.{IsMerge}
 use Rattle.hosttrace.specs.Inputs.{LIST_LIMIT, FailsBy, ListRefuses}
 use Rattle.hosttrace.specs.Statuses.{list_status}
 use Rattle.hosttrace.specs.declared.status.ListFile.TheVariants.{Events}
-use Rattle.hosttrace.specs.declared.status.Refusal.TheVariants.{BadList}
+use Rattle.hosttrace.specs.declared.status.Refusal.TheVariants.{BadList, TooManyEvents}
 use Rattle.hosttrace.specs.declared.status.Status.{Status}
 
-pub no_list : (files : Option Files) (bytes file : List ℕ) (line : ℕ) → IfSome files (λ f. bytes ≡ bytes_of f [] file) → length bytes ≤ LIST_LIMIT → ((events : List Merged) → ¬ (IsEventList bytes events)) → IsFirstBad bytes line
+pub no_list : (files : Option Files) (bytes file : List ℕ) (line : ℕ) → IfSome files (λ f. bytes ≡ bytes_of f [] file) → length bytes ≤ LIST_LIMIT → ((tolds : List Told) → ¬ (IsEventList bytes tolds)) → IsFirstBad bytes line
     → IfSome files (λ f. ListRefuses (bytes_of f [] file) (BadList Events line))
 no_list (Some f) bytes file line is small bad there = subst (λ b. ListRefuses b (BadList Events line)) is (small, bad, there)
 no_list None bytes file line is small bad there = tt
+
+pub crowded : (files : Option Files) (bytes file : List ℕ) → IfSome files (λ f. bytes ≡ bytes_of f [] file) → length bytes ≤ LIST_LIMIT → IsCrowded bytes → ((tolds : List Told) → IsEventList bytes tolds → MAX_EVENTS < length tolds)
+    → IfSome files (λ f. ListRefuses (bytes_of f [] file) TooManyEvents)
+crowded (Some f) bytes file is small many all = subst (λ b. ListRefuses b TooManyEvents) is (small, many, all)
+crowded None bytes file is small many all = tt
 
 -- what is known of an error that another was turned into
 pub at_err : {T E : Type 0} (r : Result T E) (P Q : E → Type 0) → IsErrAnd r P → ((e : E) → P e → Q e) → IfErr r Q
@@ -26,11 +34,16 @@ at_err r P Q h f = let p = err_from_is_err_and r h in subst (λ x. IfErr x Q) (s
 
 -- why a list has no events: its first bad line, or want of memory
 pub list_fails : (files : Option Files) (bytes file : List ℕ) (faults faults_after : ℕ) (error : ListError) (status : Status) → status ≡ list_status error → IfSome files (λ f. bytes ≡ bytes_of f [] file) → length bytes ≤ LIST_LIMIT
-    → ((line : ℕ) → error ≡ list.BadLine line → (events : List Merged) → ¬ (IsEventList bytes events)) → ((line : ℕ) → error ≡ list.BadLine line → IsFirstBad bytes line)
+    → ((line : ℕ) → error ≡ list.BadLine line → (tolds : List Told) → ¬ (IsEventList bytes tolds)) → ((line : ℕ) → error ≡ list.BadLine line → IsFirstBad bytes line) → (error ≡ list.TooManyEvents → IsCrowded bytes) → (error ≡ list.TooManyEvents → (tolds : List Told) → IsEventList bytes tolds → MAX_EVENTS < length tolds)
     → FailsBy (λ fs refusal. ListRefuses (bytes_of fs [] file) refusal) files faults faults_after status
-list_fails files bytes file faults faults_after (list.BadLine line) status e is small bad there = subst (FailsBy (λ fs refusal. ListRefuses (bytes_of fs [] file) refusal) files faults faults_after) (sym e) (no_list files bytes file line is small (bad line refl) (there line refl))
-list_fails files bytes file faults faults_after list.OutOfMemory status e is small bad there = subst (FailsBy (λ fs refusal. ListRefuses (bytes_of fs [] file) refusal) files faults faults_after) (sym e) tt
+list_fails files bytes file faults faults_after (list.BadLine line) status e is small bad there many all = subst (FailsBy (λ fs refusal. ListRefuses (bytes_of fs [] file) refusal) files faults faults_after) (sym e) (no_list files bytes file line is small (bad line refl) (there line refl))
+list_fails files bytes file faults faults_after list.TooManyEvents status e is small bad there many all = subst (FailsBy (λ fs refusal. ListRefuses (bytes_of fs [] file) refusal) files faults faults_after) (sym e) (crowded files bytes file is small (many refl) (all refl))
+list_fails files bytes file faults faults_after list.OutOfMemory status e is small bad there many all = subst (FailsBy (λ fs refusal. ListRefuses (bytes_of fs [] file) refusal) files faults faults_after) (sym e) tt
 
 -- the events of a list are merged
-pub is_merge : (bytes : List ℕ) (events : List Merged) → IsEventList bytes events → IsMerge events
-is_merge bytes events h = record { rises = h.2.order; below = all_weaker IsEvent (λ m. m.key < 2 ^ 62) events (λ m is. is.key) h.2.each }
+pub is_merge : (bytes : List ℕ) (tolds : List Told) (trace : MergedTrace) → IsEventList bytes tolds → IsTrace tolds trace → IsMerge trace.events.items
+is_merge bytes tolds trace h is = subst IsMerge (sym is.events) (record { rises = still_rise (λ h. names_of h tolds) 0 tolds h.2.order; below = keys_below (λ h. names_of h tolds) tolds h.2.each })
+  where
+    keys_below : (names : ℕ → List (List ℕ)) (ts : List Told) → AllByRecursion IsTold ts → AllByRecursion (λ m. m.key < 2 ^ 62) (map (λ t. numbered_in (names t.event.event.host) t) ts)
+    keys_below names [] h = tt
+    keys_below names (t ∷ ts) h = (h.0.key, keys_below names ts h.1)

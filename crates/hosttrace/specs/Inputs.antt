@@ -1,16 +1,18 @@
 -- What input files are, and what refuses them.
 use Rattle.std.specs.Prelude.{ℕ, ◌<◌, ◌≤◌, List, length, count_by, Option, IfSome}
-use Rattle.trace_types.specs.declared.event.Merged.{Merged}
 use Rattle.ht_outside.specs.Faults.{HasRisen}
 use Rattle.ht_outside.specs.Files.{Files}
-use Rattle.event_list.specs.Lines.{IsEventList, IsFirstBad}
+use Rattle.event_list.specs.Lines.{MAX_EVENTS, IsCrowded, IsEventList, IsFirstBad}
+use Rattle.event_list.specs.Names.{IsTrace}
+use Rattle.event_list.specs.declared.told.Told.{Told}
+use Rattle.event_list.specs.declared.trace.MergedTrace.{MergedTrace}
 use Rattle.history_core.specs.declared.question.Question.{Question}
 use Rattle.hosttrace.specs.Questions.{QUESTION_LIMIT, is_feed, AreQuestions, IsFirstBadQuestion}
 use Rattle.hosttrace.specs.declared.status.ListFile.TheVariants.{Events, Questions}
 use Rattle.hosttrace.specs.declared.status.Limit.TheVariants.{File}
 use Rattle.hosttrace.specs.declared.status.Limit.TheVariants as limit
 use Rattle.hosttrace.specs.declared.status.Refusal.{Refusal}
-use Rattle.hosttrace.specs.declared.status.Refusal.TheVariants.{BadList, TooLarge}
+use Rattle.hosttrace.specs.declared.status.Refusal.TheVariants.{BadList, TooLarge, TooManyEvents}
 use Rattle.hosttrace.specs.declared.status.Status.{Status}
 use Rattle.hosttrace.specs.declared.status.Status.TheVariants.{Done, Usage, Refused, ReadFault, WriteFault, NoMemory}
 
@@ -32,14 +34,22 @@ abbrev pub FileRefuses : List ℕ → Refusal → Type 0
 FileRefuses bytes (TooLarge File) = LIST_LIMIT < length bytes
 FileRefuses bytes _ = ⊥
 
--- the bytes are the event list of these events, within the limit
-pub record IsList (bytes : List ℕ) (events : List Merged) : Type 0 where
+-- the bytes are the event list of these lines, within the limits
+pub record IsList (bytes : List ℕ) (tolds : List Told) : Type 0 where
   pub small : length bytes ≤ LIST_LIMIT
-  pub is_list : IsEventList bytes events
+  pub few : length tolds ≤ MAX_EVENTS
+  pub is_list : IsEventList bytes tolds
+
+-- the bytes are an event list, and this is what its lines tell
+pub record IsListTrace (bytes : List ℕ) (trace : MergedTrace) : Type 0 where
+  pub tolds : List Told
+  pub is_list : IsList bytes tolds
+  pub is_trace : IsTrace tolds trace
 
 -- why bytes are refused as an event list
 abbrev pub ListRefuses : List ℕ → Refusal → Type 0
-ListRefuses bytes (BadList Events line) = (length bytes ≤ LIST_LIMIT) × ((events : List Merged) → ¬ (IsEventList bytes events)) × IsFirstBad bytes line
+ListRefuses bytes (BadList Events line) = (length bytes ≤ LIST_LIMIT) × ((tolds : List Told) → ¬ (IsEventList bytes tolds)) × IsFirstBad bytes line
+ListRefuses bytes TooManyEvents = (length bytes ≤ LIST_LIMIT) × IsCrowded bytes × ((tolds : List Told) → IsEventList bytes tolds → MAX_EVENTS < length tolds)
 ListRefuses bytes (TooLarge File) = LIST_LIMIT < length bytes
 ListRefuses bytes _ = ⊥
 

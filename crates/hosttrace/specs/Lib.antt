@@ -1,14 +1,12 @@
 pub mod Words
 pub mod Statuses
 pub mod Reading
-pub mod Rows
-pub mod Values
-pub mod StateText
 pub mod Questions
-pub mod AnswersText
 pub mod Inputs
 pub mod Folders
 pub mod Hosts
+pub mod Streams
+pub mod Merges
 pub mod Means
 pub mod Outcome
 pub mod Writing

@@ -1,19 +1,23 @@
 -- What each command makes of its files.
 use Rattle.std.specs.Prelude.{◌≡◌, ◌⊎◌, ℕ, ◌<◌, ◌≤◌, List, [], flat_map, length, map}
 use Rattle.std.specs.List.{AllByRecursion}
-use Rattle.trace_types.specs.declared.event.Merged.{Merged}
+use Rattle.event_list.specs.Names.{lines_of, names_at}
+use Rattle.event_list.specs.declared.told.Told.{Told}
+use Rattle.event_list.specs.declared.trace.MergedTrace.{MergedTrace}
 use Rattle.ht_outside.specs.Files.{Files, bytes_of}
 use Rattle.kernel_provider.specs.Replay.{state_at}
 use Rattle.known_types.specs.Traces.{Trace}
 use Rattle.history_core.specs.declared.question.Question.{Question}
-use Rattle.hosttrace.specs.AnswersText.{asked_text}
+use Rattle.report_views.specs.AnswersText.{asked_text}
 use Rattle.hosttrace.specs.Folders.{HOST_LIMIT, AreRead, FoldersRefuse, HasManyNames, metadata_of}
 use Rattle.hosttrace.specs.Hosts.{AreTraces, HostsRefuse, host_lines}
-use Rattle.hosttrace.specs.Inputs.{IsList, ListRefuses, AreAsked, QuestionsRefuse}
-use Rattle.hosttrace.specs.StateText.{IsStateText}
+use Rattle.hosttrace.specs.Inputs.{IsList, IsListTrace, ListRefuses, AreAsked, QuestionsRefuse}
+use Rattle.report_views.specs.StateText.{IsStateText}
 use Rattle.hosttrace.specs.declared.command.PlainCommand.{PlainCommand}
-use Rattle.hosttrace.specs.declared.command.PlainCommand.TheVariants.{Check, State, Ask}
+use Rattle.hosttrace.specs.declared.command.PlainCommand.TheVariants.{Check, Events, State, Ask}
+use Rattle.hosttrace.specs.declared.command.Input.{Input}
 use Rattle.hosttrace.specs.declared.command.Input.TheVariants as input
+use Rattle.hosttrace.specs.Merges.{FolderTraceRefuses, IsFolderTrace, IsGoodFolder}
 use Rattle.hosttrace.specs.declared.status.Limit.TheVariants as limit
 use Rattle.hosttrace.specs.declared.status.Refusal.{Refusal}
 use Rattle.hosttrace.specs.declared.status.Refusal.TheVariants.{TooLarge}
@@ -44,35 +48,56 @@ pub record AreChecked (files : Files) (folders : List (List ℕ)) : Type 0 where
   pub traces : List Trace
   pub are_traces : AreTraces (map (metadata_of files) folders) traces
 
--- the text of the state at an instant, of all bytes of a list
-pub record IsStateOutput (bytes : List ℕ) (at : ℕ) (text : List ℕ) : Type 0 where
-  pub events : List Merged
-  pub is_list : IsList bytes events
-  pub is_text : IsStateText (state_at events at) text
+-- the trace of an input: what the lines of a list tell, or the merge of a folder's host
+abbrev pub IsInput : Input → Files → MergedTrace → Type 0
+IsInput (input.List file) files trace = IsListTrace (bytes_of files [] file) trace
+IsInput (input.Folder dir) files trace = IsFolderTrace files dir trace
 
--- the text of the answers, of all bytes of a list and of a question file: each is the state on replaying the list to the question's instant
-pub record IsAskOutput (bytes questions text : List ℕ) : Type 0 where
-  pub events : List Merged
-  pub is_list : IsList bytes events
+abbrev pub InputRefuses : Input → Files → Refusal → Type 0
+InputRefuses (input.List file) files refusal = ListRefuses (bytes_of files [] file) refusal
+InputRefuses (input.Folder dir) files refusal = FolderTraceRefuses files dir refusal
+
+abbrev pub IsGoodInput : Input → Files → Type 0
+IsGoodInput (input.List file) files = (tolds : List Told) × IsList (bytes_of files [] file) tolds
+IsGoodInput (input.Folder dir) files = IsGoodFolder files dir
+
+-- the list of all events of a folder's host
+pub record IsEventsOutput (files : Files) (dir text : List ℕ) : Type 0 where
+  pub trace : MergedTrace
+  pub is_trace : IsFolderTrace files dir trace
+  pub is_text : text ≡ lines_of (names_at trace.names.items) trace.events.items
+
+-- the text of the state at an instant, of an input
+pub record IsStateOutput (files : Files) (source : Input) (at : ℕ) (text : List ℕ) : Type 0 where
+  pub trace : MergedTrace
+  pub is_input : IsInput source files trace
+  pub is_text : IsStateText (names_at trace.names.items) (state_at trace.events.items at) text
+
+-- the text of the answers, of an input and of all bytes of a question file: each is the state on replaying the trace to the question's instant
+pub record IsAskOutput (files : Files) (source : Input) (questions text : List ℕ) : Type 0 where
+  pub trace : MergedTrace
+  pub is_input : IsInput source files trace
   pub asked : List Question
-  pub are_asked : AreAsked questions asked
-  pub is_text : text ≡ flat_map (asked_text (state_at events)) asked
+  pub are_asked : AreAsked (bytes_of files [] questions) asked
+  pub is_text : text ≡ flat_map (asked_text (names_at trace.names.items) (state_at trace.events.items)) asked
 
 -- the text of a command over these files
 abbrev pub IsOutput : PlainCommand → Files → List ℕ → Type 0
 IsOutput (Check folders) files text = IsCheckOutput files folders text
-IsOutput (State (input.List file) at) files text = IsStateOutput (bytes_of files [] file) at text
-IsOutput (Ask (input.List file) questions) files text = IsAskOutput (bytes_of files [] file) (bytes_of files [] questions) text
+IsOutput (Events folder) files text = IsEventsOutput files folder text
+IsOutput (State source at) files text = IsStateOutput files source at text
+IsOutput (Ask source questions) files text = IsAskOutput files source questions text
 
--- the files are refused: the folders; the list, and behind a good list the questions
+-- the files are refused: the folders; the input, and behind a good one the questions
 abbrev pub Refuses : PlainCommand → Files → Refusal → Type 0
 Refuses (Check folders) files refusal = CheckRefuses files folders refusal
-Refuses (State (input.List file) at) files refusal = ListRefuses (bytes_of files [] file) refusal
-Refuses (Ask (input.List file) questions) files refusal =
-    ListRefuses (bytes_of files [] file) refusal ⊎ (((events : List Merged) × IsList (bytes_of files [] file) events) × QuestionsRefuse (bytes_of files [] questions) refusal)
+Refuses (Events folder) files refusal = FolderTraceRefuses files folder refusal
+Refuses (State source at) files refusal = InputRefuses source files refusal
+Refuses (Ask source questions) files refusal = InputRefuses source files refusal ⊎ (((trace : MergedTrace) × IsInput source files trace) × QuestionsRefuse (bytes_of files [] questions) refusal)
 
 -- the files are good: the command has a text over them
 abbrev pub IsGood : PlainCommand → Files → Type 0
 IsGood (Check folders) files = AreChecked files folders
-IsGood (State (input.List file) at) files = (events : List Merged) × IsList (bytes_of files [] file) events
-IsGood (Ask (input.List file) questions) files = ((events : List Merged) × IsList (bytes_of files [] file) events) × ((asked : List Question) × AreAsked (bytes_of files [] questions) asked)
+IsGood (Events folder) files = IsGoodFolder files folder
+IsGood (State source at) files = IsGoodInput source files
+IsGood (Ask source questions) files = IsGoodInput source files × ((asked : List Question) × AreAsked (bytes_of files [] questions) asked)

@@ -1,9 +1,10 @@
 -- The text of questions: a line each (this project's own format).
-use Rattle.std.specs.Prelude.{◌≡◌, ◌≢◌, ◌⊎◌, ℕ, ◌+◌, ◌==◌, ◌^◌, ◌<◌, Bool, List, [], ◌∷◌, ◌++◌, length, flat_map}
+use Rattle.std.specs.Prelude.{◌≡◌, ◌≢◌, ◌⊎◌, ℕ, ◌+◌, ◌==◌, Bool, List, [], ◌∷◌, ◌++◌, length, flat_map}
 use Rattle.std.specs.List.{AllByRecursion}
 use Rattle.std.specs.Fmt.{decimal}
-use Rattle.trace_types.specs.Paths.{path_text, IsPath}
+use Rattle.trace_types.specs.Paths.{path_text}
 use Rattle.history_core.specs.declared.question.Question.{Question}
+use Rattle.report_views.specs.Asked.{IsQuestion}
 
 -- how many line feeds a question file may have
 abbrev pub QUESTION_LIMIT : ℕ
@@ -19,11 +20,6 @@ question_line q = decimal q.t ++ 32 ∷ path_text q.path
 -- and a line feed
 abbrev pub question_text : Question → List ℕ
 question_text q = question_line q ++ 10 ∷ []
-
--- an instant below 2^62, in ns, and a path in its ranges
-pub record IsQuestion (q : Question) : Type 0 where
-  pub below : q.t < 2 ^ 62
-  pub is_path : IsPath q.path
 
 -- the text is the question's line without its line feed
 pub record IsQuestionLine (line : List ℕ) (q : Question) : Type 0 where

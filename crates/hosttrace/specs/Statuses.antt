@@ -10,7 +10,7 @@ use Rattle.event_list.specs.declared.list.ListError.TheVariants as list
 use Rattle.hosttrace.specs.declared.questions.QuestionsError.{QuestionsError}
 use Rattle.hosttrace.specs.declared.questions.QuestionsError.TheVariants as questions
 use Rattle.hosttrace.specs.declared.status.Refusal.{Refusal}
-use Rattle.hosttrace.specs.declared.status.Refusal.TheVariants.{NoMetadata, BadMetadata, BadList, TooLarge}
+use Rattle.hosttrace.specs.declared.status.Refusal.TheVariants.{NoMetadata, BadMetadata, BadList, TooLarge, TooManyEvents}
 use Rattle.hosttrace.specs.declared.status.ListFile.TheVariants.{Events, Questions}
 use Rattle.hosttrace.specs.declared.status.Limit.{Limit}
 use Rattle.hosttrace.specs.declared.status.Limit.TheVariants as limit
@@ -31,6 +31,7 @@ limit_text limit.Names = codes "names"
 limit_text limit.Metadata = codes "metadata"
 limit_text limit.File = codes "file"
 limit_text limit.Files = codes "files"
+limit_text limit.Packets = codes "packets"
 limit_text limit.Questions = codes "questions"
 
 abbrev pub refusal_text : Refusal → List ℕ
@@ -39,6 +40,7 @@ refusal_text (BadMetadata host cause) = codes "host " ++ decimal host ++ codes "
 refusal_text (BadList Events line) = codes "list line " ++ decimal line
 refusal_text (BadList Questions line) = codes "questions line " ++ decimal line
 refusal_text (TooLarge what) = codes "too large: " ++ limit_text what
+refusal_text TooManyEvents = codes "too many events"
 
 -- the line that tells a status; Done has none
 abbrev pub status_line : Status → List ℕ
@@ -61,6 +63,7 @@ IsTold NoMemory old new faults faults_after = (status : Status) × AppendsFront 
 -- the statuses that tell why a file is no list
 abbrev pub list_status : ListError → Status
 list_status (list.BadLine line) = Refused (BadList Events line)
+list_status list.TooManyEvents = Refused TooManyEvents
 list_status list.OutOfMemory = NoMemory
 
 abbrev pub questions_status : QuestionsError → Status

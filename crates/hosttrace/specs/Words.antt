@@ -3,7 +3,7 @@ use Rattle.std.specs.Prelude.{◌≡◌, ℕ, ◌^◌, ◌<◌, ◌==◌, ◌&&�
 use Rattle.std.specs.Fmt.{decimal}
 use Rattle.hosttrace.specs.declared.command.Command.{Command}
 use Rattle.hosttrace.specs.declared.command.Command.TheVariants.{Plain}
-use Rattle.hosttrace.specs.declared.command.PlainCommand.TheVariants.{Check, State, Ask}
+use Rattle.hosttrace.specs.declared.command.PlainCommand.TheVariants.{Check, Events, State, Ask}
 use Rattle.hosttrace.specs.declared.command.Input.TheVariants as input
 
 -- a word that can name a file or a folder: it isn't empty and doesn't begin with a minus sign
@@ -36,14 +36,49 @@ pub record IsAskCommand (words : List (List ℕ)) (file questions : List ℕ) : 
   pub is_file : IsFileWord file
   pub are_questions : IsFileWord questions
 
+-- `events FOLDER`
+pub record IsEventsCommand (words : List (List ℕ)) (folder : List ℕ) : Type 0 where
+  pub words_are : words ≡ codes "events" ∷ folder ∷ []
+  pub is_folder : IsFileWord folder
+
+-- `state --at T FOLDER`, with T from 0 to 2^62 - 1
+pub record IsFolderState (words : List (List ℕ)) (folder : List ℕ) (at : ℕ) : Type 0 where
+  pub words_are : words ≡ codes "state" ∷ codes "--at" ∷ decimal at ∷ folder ∷ []
+  pub at_below : at < 2 ^ 62
+  pub is_folder : IsFileWord folder
+
+-- `ask --questions FILE FOLDER`
+pub record IsFolderAsk (words : List (List ℕ)) (folder questions : List ℕ) : Type 0 where
+  pub words_are : words ≡ codes "ask" ∷ codes "--questions" ∷ questions ∷ folder ∷ []
+  pub is_folder : IsFileWord folder
+  pub are_questions : IsFileWord questions
+
 -- the words are this command
 abbrev pub IsCommand : List (List ℕ) → Command → Type 0
 IsCommand words (Plain (Check folders)) = IsCheckCommand words folders
+IsCommand words (Plain (Events folder)) = IsEventsCommand words folder
 IsCommand words (Plain (State (input.List file) at)) = IsStateCommand words file at
+IsCommand words (Plain (State (input.Folder folder) at)) = IsFolderState words folder at
 IsCommand words (Plain (Ask (input.List file) questions)) = IsAskCommand words file questions
+IsCommand words (Plain (Ask (input.Folder folder) questions)) = IsFolderAsk words folder questions
+
+-- the words are this command, and it isn't over several folders
+abbrev pub IsOtherCommand : List (List ℕ) → Command → Type 0
+IsOtherCommand words (Plain (Check folders)) = ⊥
+IsOtherCommand words (Plain (Events folder)) = IsEventsCommand words folder
+IsOtherCommand words (Plain (State (input.List file) at)) = IsStateCommand words file at
+IsOtherCommand words (Plain (State (input.Folder folder) at)) = IsFolderState words folder at
+IsOtherCommand words (Plain (Ask (input.List file) questions)) = IsAskCommand words file questions
+IsOtherCommand words (Plain (Ask (input.Folder folder) questions)) = IsFolderAsk words folder questions
 
 -- the words are this command over an event list
 abbrev pub IsListCommand : List (List ℕ) → Command → Type 0
-IsListCommand words (Plain (Check folders)) = ⊥
 IsListCommand words (Plain (State (input.List file) at)) = IsStateCommand words file at
 IsListCommand words (Plain (Ask (input.List file) questions)) = IsAskCommand words file questions
+IsListCommand words _ = ⊥
+
+-- the words are this command over the trace of a folder
+abbrev pub IsFolderCommand : List (List ℕ) → Command → Type 0
+IsFolderCommand words (Plain (State (input.Folder folder) at)) = IsFolderState words folder at
+IsFolderCommand words (Plain (Ask (input.Folder folder) questions)) = IsFolderAsk words folder questions
+IsFolderCommand words _ = ⊥

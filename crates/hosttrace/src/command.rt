@@ -7,6 +7,8 @@ use trace_types::Text;
 pub enum Input {
     /// An event list in this file.
     List(Text),
+    /// The trace in this folder, of host 0.
+    Folder(Text),
 }
 
 /// A command that runs on one thread.
@@ -14,6 +16,8 @@ pub enum Input {
 pub enum PlainCommand {
     /// What the metadata of these folders declares, each of one host.
     Check { folders: Items<Text> },
+    /// The merged events of a folder.
+    Events { folder: Text },
     /// The state at an instant, in ns.
     State { input: Input, at: u64 },
     /// The answers to the questions of a file.

@@ -1,30 +1,29 @@
 //! The top calls, and what each command does.
 ghost use Rattle.std.specs.Prelude.{◌≡◌, [], IfOk, IfErr, IfSome, map, string_bytes};
-ghost use Rattle.ht_outside.specs.Files.{bytes_of};
 ghost use Rattle.hosttrace.specs.Inputs.{FailsBy};
-ghost use Rattle.hosttrace.specs.Means.{IsOutput, IsCheckOutput, IsStateOutput, IsAskOutput, Refuses};
+ghost use Rattle.hosttrace.specs.Means.{IsAskOutput, IsCheckOutput, IsEventsOutput, IsOutput, IsStateOutput, Refuses};
 ghost use Rattle.hosttrace.specs.Outcome.{IsOutcome, Leaves, PlainLeaves, PlainMeans};
 ghost use Rattle.hosttrace.specs.Statuses.{IsTold};
-ghost use Rattle.hosttrace.specs.declared.command.PlainCommand.TheVariants.{Check, State, Ask};
-ghost use Rattle.hosttrace.specs.declared.command.Input.TheVariants as input;
+ghost use Rattle.hosttrace.specs.declared.command.PlainCommand.TheVariants.{Ask, Check, Events, State};
 
-use crate::answers_text::answers_text;
 use crate::command::{Command, Input, PlainCommand};
 use crate::folders::{is_crowd, read_folders};
 use crate::hosts::{check_text, read_hosts};
-use crate::inputs::{read_asked, read_events};
-use crate::state_text::state_text;
+use crate::inputs::{read_asked, read_input};
 use crate::status::{Limit, Refusal, Status};
 use crate::status_line::write_status;
+use crate::traces::read_trace;
 use crate::words::{WordsError, parse_words};
 use crate::writing::write_text;
 use ht_outside::{Gate, Sink, SinkError, Store};
+use report_views::{answers_text, events_text, state_text};
 use std::alloc::Global;
+use std::thread::Threads;
 use trace_types::{OutOfMemory, Text};
 
 /// Runs the command of the words after the program's name: its text goes to `out`, and for every
 /// status but `Done` a line goes to `err`.
-pub fn run<R, S: Store, K: Sink, E: Sink, G: Gate + Sync>(
+pub fn run<R: Threads + Sync, S: Store, K: Sink, E: Sink, G: Gate + Sync>(
     rt: &R,
     alloc: Global,
     words: &[String],
@@ -56,8 +55,8 @@ pub fn run<R, S: Store, K: Sink, E: Sink, G: Gate + Sync>(
 }
 
 /// Runs a command that waits for nobody. It returns for every input.
-pub fn run_plain<R, S: Store, K: Sink, E: Sink>(
-    _rt: &R,
+pub fn run_plain<R: Threads + Sync, S: Store, K: Sink, E: Sink>(
+    rt: &R,
     alloc: Global,
     command: &PlainCommand,
     store: &mut S,
@@ -79,12 +78,13 @@ pub fn run_plain<R, S: Store, K: Sink, E: Sink>(
     ensures told { IsTold result (E.contents err.old) (E.contents err.new) (E.faults err.old) (E.faults err.new) }
     ensures keeps { S.holds store.new ≡ S.holds store.old }
 {
-    let status = perform(alloc, command, store, out);
+    let status = perform(rt, alloc, command, store, out);
     write_status(alloc, status, err)
 }
 
 // Writes the text of a command.
 fn perform<S: Store, K: Sink>(
+    threads: &(impl Threads + Sync),
     alloc: Global,
     command: &PlainCommand,
     store: &mut S,
@@ -104,7 +104,7 @@ fn perform<S: Store, K: Sink>(
     ensures leaves { PlainLeaves command.now (S.holds store.old) (K.contents out.old) (K.contents out.new) result }
     ensures keeps { S.holds store.new ≡ S.holds store.old }
 {
-    let text = match text_of(alloc, command, store) {
+    let text = match text_of(threads, alloc, command, store) {
         Ok(text) => text,
         Err(status) => return status,
     };
@@ -117,6 +117,7 @@ fn perform<S: Store, K: Sink>(
 
 // The text of a command, or the status that tells why it has none.
 fn text_of<S: Store>(
+    threads: &(impl Threads + Sync),
     alloc: Global,
     command: &PlainCommand,
     store: &mut S,
@@ -127,13 +128,10 @@ fn text_of<S: Store>(
 {
     match command {
         PlainCommand::Check { folders } => text_of_check(alloc, folders.as_slice(), store),
-        PlainCommand::State { input, at } => {
-            let Input::List(file) = input;
-            text_of_state(alloc, file, *at, store)
-        }
+        PlainCommand::Events { folder } => text_of_events(threads, alloc, folder, store),
+        PlainCommand::State { input, at } => text_of_state(threads, alloc, input, *at, store),
         PlainCommand::Ask { input, questions } => {
-            let Input::List(file) = input;
-            text_of_ask(alloc, file, questions, store)
+            text_of_ask(threads, alloc, input, questions, store)
         }
     }
 }
@@ -160,38 +158,58 @@ fn text_of_check<S: Store>(
     }
 }
 
-// The state at an instant, of an event list.
-fn text_of_state<S: Store>(
+// All events of the trace of a folder.
+fn text_of_events<S: Store>(
+    threads: &(impl Threads + Sync),
     alloc: Global,
-    file: &Text,
-    at: u64,
+    folder: &Text,
     store: &mut S,
 ) -> Result<Vec<u8>, Status>
-    ensures text { IfOk result (λ text. IfSome (S.holds store.old) (λ files. IsStateOutput (bytes_of files [] file.now) at text.items)) }
-    ensures fails { IfErr result (λ status. FailsBy (Refuses (State (input.List file.now) at)) (S.holds store.old) (S.faults store.old) (S.faults store.new) status) }
+    ensures text { IfOk result (λ text. IfSome (S.holds store.old) (λ files. IsEventsOutput files folder.now text.items)) }
+    ensures fails { IfErr result (λ status. FailsBy (Refuses (Events folder.now)) (S.holds store.old) (S.faults store.old) (S.faults store.new) status) }
     ensures keeps { S.holds store.new ≡ S.holds store.old }
 {
-    let trace = read_events(alloc, file, store)?;
-    match state_text(alloc, &trace.events, at) {
+    let trace = read_trace(threads, alloc, folder, store)?;
+    match events_text(alloc, &trace) {
         Ok(text) => Ok(text),
         Err(OutOfMemory) => Err(Status::NoMemory),
     }
 }
 
-// The answers to the questions of a file, of an event list.
-fn text_of_ask<S: Store>(
+// The state at an instant, of an input.
+fn text_of_state<S: Store>(
+    threads: &(impl Threads + Sync),
     alloc: Global,
-    file: &Text,
+    input: &Input,
+    at: u64,
+    store: &mut S,
+) -> Result<Vec<u8>, Status>
+    ensures text { IfOk result (λ text. IfSome (S.holds store.old) (λ files. IsStateOutput files input.now at text.items)) }
+    ensures fails { IfErr result (λ status. FailsBy (Refuses (State input.now at)) (S.holds store.old) (S.faults store.old) (S.faults store.new) status) }
+    ensures keeps { S.holds store.new ≡ S.holds store.old }
+{
+    let trace = read_input(threads, alloc, input, store)?;
+    match state_text(alloc, &trace, at) {
+        Ok(text) => Ok(text),
+        Err(OutOfMemory) => Err(Status::NoMemory),
+    }
+}
+
+// The answers to the questions of a file, of an input.
+fn text_of_ask<S: Store>(
+    threads: &(impl Threads + Sync),
+    alloc: Global,
+    input: &Input,
     questions: &Text,
     store: &mut S,
 ) -> Result<Vec<u8>, Status>
-    ensures text { IfOk result (λ text. IfSome (S.holds store.old) (λ files. IsAskOutput (bytes_of files [] file.now) (bytes_of files [] questions.now) text.items)) }
-    ensures fails { IfErr result (λ status. FailsBy (Refuses (Ask (input.List file.now) questions.now)) (S.holds store.old) (S.faults store.old) (S.faults store.new) status) }
+    ensures text { IfOk result (λ text. IfSome (S.holds store.old) (λ files. IsAskOutput files input.now questions.now text.items)) }
+    ensures fails { IfErr result (λ status. FailsBy (Refuses (Ask input.now questions.now)) (S.holds store.old) (S.faults store.old) (S.faults store.new) status) }
     ensures keeps { S.holds store.new ≡ S.holds store.old }
 {
-    let trace = read_events(alloc, file, store)?;
+    let trace = read_input(threads, alloc, input, store)?;
     let questions = read_asked(alloc, questions, store)?;
-    match answers_text(alloc, &trace.events, &questions) {
+    match answers_text(alloc, &trace, &questions) {
         Ok(text) => Ok(text),
         Err(OutOfMemory) => Err(Status::NoMemory),
     }

@@ -1,5 +1,6 @@
 //! Reading the metadata of the folders that a command names.
 ghost use Rattle.std.specs.Prelude.{◌≡◌, ◌+◌, ◌≤◌, ◌<◌, ◌^◌, ◌↔◌, length, map, count_by, codes, Contains, IsTrue, IfOk, IfErr, IfSome, OnOk};
+ghost use Rattle.ht_outside.specs.Files.{ListsNames};
 ghost use Rattle.hosttrace.specs.Folders.{FILES_LIMIT, HOST_LIMIT, METADATA_LIMIT, AreRead, FolderRefuses, FoldersRefuse, HasFewNames, HasMetadata, IsRead, NamesRefuse, SizeRefuses, is_shown, metadata_of};
 ghost use Rattle.hosttrace.specs.Inputs.{FailsBy};
 ghost use Rattle.hosttrace.specs.declared.status.Refusal.TheVariants.{TooLarge};
@@ -22,7 +23,7 @@ const NAME_LIMIT: usize = 4_096;
 const METADATA_LIMIT: usize = 16_777_216;
 
 /// How many bytes all files of all folders may have together.
-const FILES_LIMIT: usize = 536_870_912;
+pub const FILES_LIMIT: usize = 536_870_912;
 
 /// Whether more folders are named than may be.
 pub fn is_crowd(folders: &[Text]) -> bool
@@ -74,9 +75,10 @@ fn read_folder<S: Store>(
     read_metadata_of(alloc, before, dir, store)
 }
 
-// Refuses a folder of too many names, or without metadata.
-fn look_into<S: Store>(host: u32, dir: &[u8], store: &mut S) -> Result<(), Status>
+/// The names in a folder, in any order. Refused are too many, and a folder without metadata.
+pub fn look_into<S: Store>(host: u32, dir: &[u8], store: &mut S) -> Result<Vec<Text>, Status>
     ensures named { OnOk result (IfSome (S.holds store.old) (λ files. HasFewNames files dir.now × HasMetadata files dir.now)) }
+    ensures names { IfOk result (λ names. IfSome (S.holds store.old) (λ files. ListsNames files dir.now names.items)) }
     ensures fails { IfErr result (λ status. FailsBy (λ files refusal. NamesRefuse files host dir.now refusal) (S.holds store.old) (S.faults store.old) (S.faults store.new) status) }
     ensures grows { S.faults store.old ≤ S.faults store.new }
     ensures keeps { S.holds store.new ≡ S.holds store.old }
@@ -92,7 +94,7 @@ fn look_into<S: Store>(host: u32, dir: &[u8], store: &mut S) -> Result<(), Statu
     if !has_metadata(&names) {
         return Err(Status::Refused(Refusal::NoMetadata { host }));
     }
-    Ok(())
+    Ok(names)
 }
 
 // How many names don't begin with a dot.
@@ -104,9 +106,16 @@ fn shown(names: &[Text]) -> usize
         .filter(
             |name: &&Text|
                 ensures { result ≡ is_shown name.now.now }
-            { !matches!(name.as_bytes(), [b'.', ..]) },
+            { is_shown(name.as_bytes()) },
         )
         .count()
+}
+
+/// Whether a name doesn't begin with a dot.
+pub fn is_shown(name: &[u8]) -> bool
+    ensures { result ≡ is_shown name.now }
+{
+    !matches!(name, [b'.', ..])
 }
 
 // Whether one of the names is that of metadata.
@@ -118,8 +127,8 @@ fn has_metadata(names: &[Text]) -> bool
         .any(|name| name.as_bytes() == b"metadata".as_slice())
 }
 
-// The metadata of a folder, where so many bytes of others were read before.
-fn read_metadata_of<S: Store>(
+/// The metadata of a folder, where so many bytes of others were read before.
+pub fn read_metadata_of<S: Store>(
     alloc: Global,
     before: usize,
     dir: &[u8],
@@ -145,7 +154,8 @@ fn read_metadata_of<S: Store>(
     Ok(Items::from_vec(bytes))
 }
 
-fn too_large(what: Limit) -> Status
+/// The status of what passes a limit.
+pub fn too_large(what: Limit) -> Status
     ensures { result ≡ Refused (TooLarge what) }
 {
     Status::Refused(Refusal::TooLarge { what })

@@ -26,8 +26,8 @@ pub fn read_hosts(alloc: Global, files: &[Items<u8>]) -> Result<Vec<TraceMeta>, 
     Ok(metas)
 }
 
-// What the metadata of this host declares.
-fn read_host(alloc: Global, host: u32, bytes: &[u8]) -> Result<TraceMeta, Status>
+/// What the metadata of this host declares.
+pub fn read_host(alloc: Global, host: u32, bytes: &[u8]) -> Result<TraceMeta, Status>
     ensures trace { IfOk result (λ meta. IsTrace bytes.now (trace meta)) }
     ensures fails { IfErr result (λ status. TextFails (MetadataRefuses host bytes.now) status) }
 {

@@ -3,20 +3,24 @@ ghost use Rattle.std.specs.Prelude.{◌≡◌, ◌≤◌, [], length, IfOk, IfEr
 ghost use Rattle.std.specs.List.{AllByRecursion};
 ghost use Rattle.ht_outside.specs.Files.{bytes_of};
 ghost use Rattle.history_core.specs.Agreement.{IsMerge};
-ghost use Rattle.hosttrace.specs.Inputs.{LIST_LIMIT, IsList, AreAsked, FailsBy, FileRefuses, ListRefuses, QuestionsRefuse};
-ghost use Rattle.hosttrace.specs.Questions.{IsQuestion};
+ghost use Rattle.hosttrace.specs.Inputs.{LIST_LIMIT, IsListTrace, AreAsked, FailsBy, FileRefuses, ListRefuses, QuestionsRefuse};
+ghost use Rattle.hosttrace.specs.Means.{InputRefuses, IsInput};
+ghost use Rattle.report_views.specs.Asked.{IsQuestion};
 
+use crate::command::Input;
 use crate::questions::{QuestionsError, is_crowded, read_questions};
 use crate::reading::{ReadError, read_file};
 use crate::status::{Limit, ListFile, Refusal, Status};
+use crate::traces::read_trace;
 use event_list::{ListError, MergedTrace, read_list};
 use history_core::Question;
 use ht_outside::Store;
 use std::alloc::Global;
+use std::thread::Threads;
 use trace_types::Text;
 
 /// How many bytes a list may have.
-const LIST_LIMIT: usize = 268_435_456;
+pub const LIST_LIMIT: usize = 268_435_456;
 
 impl From<ListError> for Status {
     ghost use Rattle.std.specs.Prelude.{◌≡◌};
@@ -30,6 +34,7 @@ impl From<ListError> for Status {
                 let file = ListFile::Events;
                 Status::Refused(Refusal::BadList { file, line })
             }
+            ListError::TooManyEvents => Status::Refused(Refusal::TooManyEvents),
             ListError::OutOfMemory => Status::NoMemory,
         }
     }
@@ -52,13 +57,28 @@ impl From<QuestionsError> for Status {
     }
 }
 
-/// The events of an event list, or the status that tells why there are none.
-pub fn read_events<S: Store>(
+/// The trace of an input, or the status that tells why there is none.
+pub fn read_input<S: Store>(
+    threads: &(impl Threads + Sync),
     alloc: Global,
-    file: &Text,
+    input: &Input,
     store: &mut S,
 ) -> Result<MergedTrace, Status>
-    ensures list { IfOk result (λ trace. IfSome (S.holds store.old) (λ files. IsList (bytes_of files [] file.now) trace.events.items)) }
+    ensures trace { IfOk result (λ trace. IfSome (S.holds store.old) (λ files. IsInput input.now files trace)) }
+    ensures merge { IfOk result (λ trace. IsMerge trace.events.items) }
+    ensures fails { IfErr result (λ status. FailsBy (InputRefuses input.now) (S.holds store.old) (S.faults store.old) (S.faults store.new) status) }
+    ensures grows { S.faults store.old ≤ S.faults store.new }
+    ensures keeps { S.holds store.new ≡ S.holds store.old }
+{
+    match input {
+        Input::List(file) => read_events(alloc, file, store),
+        Input::Folder(dir) => read_trace(threads, alloc, dir, store),
+    }
+}
+
+// The events of an event list, or the status that tells why there are none.
+fn read_events<S: Store>(alloc: Global, file: &Text, store: &mut S) -> Result<MergedTrace, Status>
+    ensures list { IfOk result (λ trace. IfSome (S.holds store.old) (λ files. IsListTrace (bytes_of files [] file.now) trace)) }
     ensures merge { IfOk result (λ trace. IsMerge trace.events.items) }
     ensures fails { IfErr result (λ status. FailsBy (λ files refusal. ListRefuses (bytes_of files [] file.now) refusal) (S.holds store.old) (S.faults store.old) (S.faults store.new) status) }
     ensures grows { S.faults store.old ≤ S.faults store.new }

@@ -1,7 +1,6 @@
 //! The commands of hosttrace: words in, a text out, and a status that says what happened.
 #![tactic(auto)]
 
-mod answers_text;
 mod command;
 mod commands;
 mod folders;
@@ -9,11 +8,10 @@ mod hosts;
 mod inputs;
 mod questions;
 mod reading;
-mod rows;
-mod state_text;
 mod status;
 mod status_line;
-mod value_text;
+mod streams;
+mod traces;
 mod words;
 mod writing;
 

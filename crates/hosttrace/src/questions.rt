@@ -1,6 +1,7 @@
 //! Reading a question file.
 ghost use Rattle.std.specs.Prelude.{◌≡◌, ◌≢◌, ◌++◌, ◌<◌, ◌↔◌, ℕ, List, IfOk, IfSome, IfNone, IsTrue, Err, count_by};
-ghost use Rattle.hosttrace.specs.Questions.{IsQuestion, IsQuestionLine, AreQuestions, IsFirstBadQuestion, QUESTION_LIMIT, question_text, is_feed};
+ghost use Rattle.hosttrace.specs.Questions.{IsQuestionLine, AreQuestions, IsFirstBadQuestion, QUESTION_LIMIT, question_text, is_feed};
+ghost use Rattle.report_views.specs.Asked.{IsQuestion};
 ghost use Rattle.hosttrace.specs.declared.questions.QuestionsError.TheVariants.{BadLine};
 ghost use Rattle.history_core.specs.declared.question.Question.{Question};
 

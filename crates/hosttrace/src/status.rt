@@ -25,6 +25,8 @@ pub enum Limit {
     File,
     /// The bytes of all files of all folders together.
     Files,
+    /// The packets of all files, accepted or refused one by one.
+    Packets,
     /// The line feeds of a question file.
     Questions,
 }
@@ -36,6 +38,7 @@ pub enum Refusal {
     BadMetadata { host: u32, cause: MetaCause },
     BadList { file: ListFile, line: u64 },
     TooLarge { what: Limit },
+    TooManyEvents,
 }
 
 /// How a command ended.

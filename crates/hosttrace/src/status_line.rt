@@ -26,6 +26,7 @@ impl fmt::Display for Limit {
             Limit::Metadata => "metadata",
             Limit::File => "file",
             Limit::Files => "files",
+            Limit::Packets => "packets",
             Limit::Questions => "questions",
         })
     }
@@ -50,6 +51,7 @@ impl fmt::Display for Refusal {
                 line,
             } => write!(f, "questions line {line}"),
             Refusal::TooLarge { what } => write!(f, "too large: {what}"),
+            Refusal::TooManyEvents => f.write_str("too many events"),
         }
     }
 }

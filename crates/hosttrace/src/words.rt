@@ -1,7 +1,7 @@
 //! Reading the words of a command line.
-ghost use Rattle.std.specs.Prelude.{◌≡◌, ◌≢◌, ◌↔◌, ◌<◌, ◌^◌, ◌∷◌, [], ℕ, length, IsTrue, IfOk, IfSome, IfNone, Err, codes, get_or, map, string_bytes};
+ghost use Rattle.std.specs.Prelude.{◌≡◌, ◌≢◌, ◌↔◌, ◌<◌, ◌^◌, ◌∷◌, [], ℕ, List, length, IsTrue, IfOk, IfSome, IfNone, Err, codes, get_or, map, string_bytes};
 ghost use Rattle.std.specs.Fmt.{decimal};
-ghost use Rattle.hosttrace.specs.Words.{IsCommand, IsListCommand, IsFileWord, are_file_words};
+ghost use Rattle.hosttrace.specs.Words.{IsCommand, IsEventsCommand, IsFileWord, IsFolderCommand, IsListCommand, IsOtherCommand, are_file_words};
 ghost use Rattle.hosttrace.specs.declared.words.WordsError.TheVariants.{Usage};
 ghost use Rattle.hosttrace.specs.declared.command.Command.{Command};
 
@@ -46,8 +46,88 @@ pub fn parse_words(alloc: Global, words: &[String]) -> Result<Command, WordsErro
 {
     match words_of_check(words) {
         Some(folders) => parse_check(alloc, folders),
-        None => parse_listed(alloc, words),
+        None => parse_other(alloc, words),
     }
+}
+
+// Any other command, told by how many words it has.
+fn parse_other(alloc: Global, words: &[String]) -> Result<Command, WordsError>
+    ensures found { IfOk result (λ c. IsCommand (map string_bytes words.now) c) }
+    ensures usage { result ≡ Err Usage → (c : Command) → ¬ (IsOtherCommand (map string_bytes words.now) c) }
+{
+    if words.len() == 2 {
+        return parse_events(alloc, words[0].as_bytes(), words[1].as_bytes());
+    }
+    if words.len() == 4 {
+        return parse_folder(
+            alloc,
+            words[0].as_bytes(),
+            words[1].as_bytes(),
+            words[2].as_bytes(),
+            words[3].as_bytes(),
+        );
+    }
+    parse_listed(alloc, words)
+}
+
+// The command over all events of a folder.
+fn parse_events(alloc: Global, command: &[u8], folder: &[u8]) -> Result<Command, WordsError>
+    ensures found { IfOk result (λ c. IsCommand (command.now ∷ folder.now ∷ []) c) }
+    ensures usage { result ≡ Err Usage → (dir : List ℕ) → ¬ (IsEventsCommand (command.now ∷ folder.now ∷ []) dir) }
+{
+    if command != b"events".as_slice() || !is_file_word(folder) {
+        return Err(WordsError::Usage);
+    }
+    let folder = Text::from_bytes(alloc, folder)?;
+    Ok(Command::Plain(PlainCommand::Events { folder }))
+}
+
+// A command over a folder.
+fn parse_folder(
+    alloc: Global,
+    command: &[u8],
+    option: &[u8],
+    value: &[u8],
+    folder: &[u8],
+) -> Result<Command, WordsError>
+    ensures found { IfOk result (λ c. IsCommand (command.now ∷ option.now ∷ value.now ∷ folder.now ∷ []) c) }
+    ensures usage { result ≡ Err Usage → (c : Command) → ¬ (IsFolderCommand (command.now ∷ option.now ∷ value.now ∷ folder.now ∷ []) c) }
+{
+    if !is_file_word(folder) {
+        return Err(WordsError::Usage);
+    }
+    if command == b"state".as_slice() && option == b"--at".as_slice() {
+        return parse_folder_state(alloc, value, folder);
+    }
+    if command == b"ask".as_slice() && option == b"--questions".as_slice() {
+        return parse_folder_ask(alloc, value, folder);
+    }
+    Err(WordsError::Usage)
+}
+
+fn parse_folder_state(alloc: Global, at: &[u8], folder: &[u8]) -> Result<Command, WordsError>
+    requires { IsFileWord folder.now }
+    ensures found { IfOk result (λ c. IsCommand (codes "state" ∷ codes "--at" ∷ at.now ∷ folder.now ∷ []) c) }
+    ensures usage { result ≡ Err Usage → (n : ℕ) → n < 2 ^ 62 → at.now ≢ decimal n }
+{
+    let Some(at) = read_number_below(at, TIME_END) else {
+        return Err(WordsError::Usage);
+    };
+    let input = Input::Folder(Text::from_bytes(alloc, folder)?);
+    Ok(Command::Plain(PlainCommand::State { input, at }))
+}
+
+fn parse_folder_ask(alloc: Global, questions: &[u8], folder: &[u8]) -> Result<Command, WordsError>
+    requires { IsFileWord folder.now }
+    ensures found { IfOk result (λ c. IsCommand (codes "ask" ∷ codes "--questions" ∷ questions.now ∷ folder.now ∷ []) c) }
+    ensures usage { result ≡ Err Usage → ¬ (IsFileWord questions.now) }
+{
+    if !is_file_word(questions) {
+        return Err(WordsError::Usage);
+    }
+    let input = Input::Folder(Text::from_bytes(alloc, folder)?);
+    let questions = Text::from_bytes(alloc, questions)?;
+    Ok(Command::Plain(PlainCommand::Ask { input, questions }))
 }
 
 // The words behind the name of the command over folders, where that is the first.

@@ -6,9 +6,10 @@ use std::alloc::AllocGlobal;
 use std::process::Abort;
 use std::str;
 use std::test::Fail;
+use std::thread::Threads;
 
 // Asks these questions of a list, which must be answered by this text.
-fn answered<R: AllocGlobal + Abort>(
+fn answered<R: AllocGlobal + Threads + Sync + Abort>(
     rt: &R,
     list: &[u8],
     questions: &[u8],

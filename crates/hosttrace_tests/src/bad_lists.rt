@@ -4,9 +4,14 @@ use std::alloc::AllocGlobal;
 use std::process::Abort;
 use std::str;
 use std::test::Fail;
+use std::thread::Threads;
 
 // Runs a list that must be refused with this line on the sink for errors.
-fn refused<R: AllocGlobal + Abort>(rt: &R, list: &[u8], line: &str) -> Result<(), Fail> {
+fn refused<R: AllocGlobal + Threads + Sync + Abort>(
+    rt: &R,
+    list: &[u8],
+    line: &str,
+) -> Result<(), Fail> {
     let ran = run_on(rt, "state --at 249 --list a.list", "a.list", list)?;
     assert_eq!(rt; str::from_utf8(&ran.err)?, line);
     assert_eq!(rt; ran.status.code(), 2);

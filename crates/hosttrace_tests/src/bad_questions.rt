@@ -5,9 +5,10 @@ use std::alloc::AllocGlobal;
 use std::process::Abort;
 use std::str;
 use std::test::Fail;
+use std::thread::Threads;
 
 // Asks questions that must be refused with this line on the sink for errors.
-fn refused<R: AllocGlobal + Abort>(
+fn refused<R: AllocGlobal + Threads + Sync + Abort>(
     rt: &R,
     list: &[u8],
     questions: &[u8],

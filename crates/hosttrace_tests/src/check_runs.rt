@@ -7,6 +7,7 @@ use std::io::Write;
 use std::process::Abort;
 use std::str;
 use std::test::Fail;
+use std::thread::Threads;
 
 // A trace with a stream, an event and a clock.
 const ONE_EVENT: &[u8] = b"/* CTF 1.8 */
@@ -30,7 +31,11 @@ const BEFORE: &[u8] =
 type File<'a> = (&'a [u8], &'a [u8], &'a [u8]);
 
 // Runs words over files of folders.
-fn run_folders<R: AllocGlobal>(rt: &R, line: &str, files: &[File<'_>]) -> Result<Ran, Fail> {
+fn run_folders<R: AllocGlobal + Threads + Sync>(
+    rt: &R,
+    line: &str,
+    files: &[File<'_>],
+) -> Result<Ran, Fail> {
     let mut store = MemoryStore::new(rt.alloc());
     for (dir, name, bytes) in files {
         store.put(dir, name, bytes)?;
@@ -39,7 +44,7 @@ fn run_folders<R: AllocGlobal>(rt: &R, line: &str, files: &[File<'_>]) -> Result
 }
 
 // Words over files of folders print this text.
-fn done<R: AllocGlobal + Abort>(
+fn done<R: AllocGlobal + Threads + Sync + Abort>(
     rt: &R,
     line: &str,
     files: &[File<'_>],
@@ -53,7 +58,7 @@ fn done<R: AllocGlobal + Abort>(
 }
 
 // Words over files of folders are refused with this line.
-fn refused_over<R: AllocGlobal + Abort>(
+fn refused_over<R: AllocGlobal + Threads + Sync + Abort>(
     rt: &R,
     words: &str,
     files: &[File<'_>],
@@ -67,12 +72,20 @@ fn refused_over<R: AllocGlobal + Abort>(
 }
 
 // The metadata of one folder is refused with this line.
-fn refused<R: AllocGlobal + Abort>(rt: &R, bytes: &[u8], line: &str) -> Result<(), Fail> {
+fn refused<R: AllocGlobal + Threads + Sync + Abort>(
+    rt: &R,
+    bytes: &[u8],
+    line: &str,
+) -> Result<(), Fail> {
     refused_over(rt, "check d", &[(b"d", b"metadata", bytes)], line)
 }
 
 // The same behind the two items.
-fn refused_behind<R: AllocGlobal + Abort>(rt: &R, bytes: &[u8], line: &str) -> Result<(), Fail> {
+fn refused_behind<R: AllocGlobal + Threads + Sync + Abort>(
+    rt: &R,
+    bytes: &[u8],
+    line: &str,
+) -> Result<(), Fail> {
     let mut whole = Vec::new(rt.alloc());
     whole.extend_from_slice(BEFORE)?;
     whole.extend_from_slice(bytes)?;
@@ -145,7 +158,7 @@ fn a_packet_that_is_refused(rt: HostRuntime) -> Result<(), Fail> {
 }
 
 // So many open braces.
-fn opened<R: AllocGlobal>(rt: &R, count: u64) -> Result<Vec<u8>, Fail> {
+fn opened<R: AllocGlobal + Threads + Sync>(rt: &R, count: u64) -> Result<Vec<u8>, Fail> {
     let mut text = Vec::new(rt.alloc());
     for _ in 0..count {
         text.extend_from_slice(b"struct { ")?;
@@ -194,7 +207,7 @@ fn hostile_items(rt: HostRuntime) -> Result<(), Fail> {
 }
 
 // Structures numbered from 1 to below this end, each with a field of the type of the one before.
-fn deeper<R: AllocGlobal>(rt: &R, end: u64) -> Result<Vec<u8>, Fail> {
+fn deeper<R: AllocGlobal + Threads + Sync>(rt: &R, end: u64) -> Result<Vec<u8>, Fail> {
     let mut text = Vec::new(rt.alloc());
     text.extend_from_slice(b"struct t1 { b a; };")?;
     for n in 2..end {
@@ -205,7 +218,7 @@ fn deeper<R: AllocGlobal>(rt: &R, end: u64) -> Result<Vec<u8>, Fail> {
 }
 
 // The same, each with two fields of the type of the one before.
-fn wider<R: AllocGlobal>(rt: &R, end: u64) -> Result<Vec<u8>, Fail> {
+fn wider<R: AllocGlobal + Threads + Sync>(rt: &R, end: u64) -> Result<Vec<u8>, Fail> {
     let mut text = Vec::new(rt.alloc());
     text.extend_from_slice(b"struct s1 { b a; b c; };")?;
     for n in 2..end {
@@ -269,7 +282,7 @@ fn a_missing_file_before_a_bad_one(rt: HostRuntime) -> Result<(), Fail> {
 }
 
 // The words of a command over so many folders, of which none is there.
-fn line_of<R: AllocGlobal>(rt: &R, count: u64) -> Result<String, Fail> {
+fn line_of<R: AllocGlobal + Threads + Sync>(rt: &R, count: u64) -> Result<String, Fail> {
     let mut line = String::from_str(rt.alloc(), "check")?;
     for _ in 0..count {
         line.push_str(" d")?;
@@ -285,7 +298,7 @@ fn many_folders(rt: HostRuntime) -> Result<(), Fail> {
 }
 
 // Words are no command.
-fn no_command<R: AllocGlobal + Abort>(rt: &R, line: &str) -> Result<(), Fail> {
+fn no_command<R: AllocGlobal + Threads + Sync + Abort>(rt: &R, line: &str) -> Result<(), Fail> {
     let ran = run_folders(rt, line, &[(b"d", b"metadata", NOTHING)])?;
     assert_eq!(rt; ran.status, Status::Usage);
     assert_eq!(rt; str::from_utf8(&ran.err)?, "usage\n");

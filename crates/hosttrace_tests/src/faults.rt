@@ -5,6 +5,7 @@ use ht_outside::{MemorySink, MemoryStore, OpenGate, Sink, SinkError, Store, Stor
 use std::alloc::AllocGlobal;
 use std::str;
 use std::test::Fail;
+use std::thread::Threads;
 use trace_types::Text;
 
 // A store in memory whose call of this number fails, counted from 0.
@@ -88,7 +89,7 @@ const QUESTIONS: &[u8] = b"249 h0/Cpu/0/Thread\n99 h0/Cpu/0/Thread\n";
 const ANSWERS: &str = "249 h0/Cpu/0/Thread int 7\n99 h0/Cpu/0/Thread null\n";
 
 // Asks two questions, as `ran`.
-fn asked<R: AllocGlobal>(
+fn asked<R: AllocGlobal + Threads + Sync>(
     rt: &R,
     fails_at: u64,
     room: usize,
@@ -98,7 +99,7 @@ fn asked<R: AllocGlobal>(
 
 // Runs words where the store's call of this number fails and the sink for the text takes so many
 // bytes: the status, what was written, and the line on the sink for errors.
-fn ran<R: AllocGlobal>(
+fn ran<R: AllocGlobal + Threads + Sync>(
     rt: &R,
     line: &str,
     fails_at: u64,

@@ -3,6 +3,7 @@ use hosttrace::{Status, run};
 use ht_outside::{MemorySink, MemoryStore, OpenGate};
 use std::alloc::AllocGlobal;
 use std::test::Fail;
+use std::thread::Threads;
 
 /// What a run answered and wrote.
 #[derive(Debug, Drop)]
@@ -14,12 +15,21 @@ pub struct Ran {
 
 /// Runs the words of a line, where a file of this name lies in the folder that the program was
 /// called in.
-pub fn run_on<R: AllocGlobal>(rt: &R, line: &str, name: &str, bytes: &[u8]) -> Result<Ran, Fail> {
+pub fn run_on<R: AllocGlobal + Threads + Sync>(
+    rt: &R,
+    line: &str,
+    name: &str,
+    bytes: &[u8],
+) -> Result<Ran, Fail> {
     run_over(rt, line, &[(name, bytes)])
 }
 
 /// The same, where several files lie there.
-pub fn run_over<R: AllocGlobal>(rt: &R, line: &str, files: &[(&str, &[u8])]) -> Result<Ran, Fail> {
+pub fn run_over<R: AllocGlobal + Threads + Sync>(
+    rt: &R,
+    line: &str,
+    files: &[(&str, &[u8])],
+) -> Result<Ran, Fail> {
     let mut store = MemoryStore::new(rt.alloc());
     for (name, bytes) in files {
         store.put(b"", name.as_bytes(), bytes)?;
@@ -28,7 +38,11 @@ pub fn run_over<R: AllocGlobal>(rt: &R, line: &str, files: &[(&str, &[u8])]) -> 
 }
 
 /// The same over the files of a store.
-pub fn run_in<R: AllocGlobal>(rt: &R, line: &str, mut store: MemoryStore) -> Result<Ran, Fail> {
+pub fn run_in<R: AllocGlobal + Threads + Sync>(
+    rt: &R,
+    line: &str,
+    mut store: MemoryStore,
+) -> Result<Ran, Fail> {
     let alloc = rt.alloc();
     let mut words = Vec::new(alloc);
     for word in line.split_whitespace() {

@@ -10,6 +10,7 @@ use kernel_provider::Provider;
 use std::alloc::AllocGlobal;
 use std::process::Abort;
 use std::test::Fail;
+use std::thread::Threads;
 use trace_types::{CpuLeaf, Merged, Path, ThreadKey, ThreadLeaf, Value};
 
 const CPU_0: Path = Path::Cpu {
@@ -25,7 +26,11 @@ const BASH: Path = Path::Thread {
 };
 
 // The history of the first steps of a merge, at most so many.
-fn built<R: AllocGlobal>(rt: &R, events: &[Merged], steps: u32) -> Result<History, Fail>
+fn built<R: AllocGlobal + Threads + Sync>(
+    rt: &R,
+    events: &[Merged],
+    steps: u32,
+) -> Result<History, Fail>
     requires { IsMerge events.now }
 {
     let mut provider = Provider::new(rt.alloc());
@@ -40,14 +45,14 @@ fn built<R: AllocGlobal>(rt: &R, events: &[Merged], steps: u32) -> Result<Histor
 }
 
 // The events of a list.
-fn events_of<R: AllocGlobal>(rt: &R, list: &[u8]) -> Result<Vec<Merged>, Fail>
+fn events_of<R: AllocGlobal + Threads + Sync>(rt: &R, list: &[u8]) -> Result<Vec<Merged>, Fail>
     ensures { IfOk result (λ events. IsMerge events.items) }
 {
     Ok(read_list(rt.alloc(), list)?.events)
 }
 
 // What the history of a list's first steps answers, and how many steps it took.
-fn asked<R: AllocGlobal>(
+fn asked<R: AllocGlobal + Threads + Sync>(
     rt: &R,
     list: &[u8],
     steps: u32,
@@ -71,7 +76,7 @@ fn add_new<R: Abort>(rt: &R, attributes: &mut Attributes, path: Path) -> Result<
 }
 
 // The two paths.
-fn two_paths<R: AllocGlobal + Abort>(rt: &R) -> Result<Attributes, Fail> {
+fn two_paths<R: AllocGlobal + Threads + Sync + Abort>(rt: &R) -> Result<Attributes, Fail> {
     let mut attributes = Attributes::new(rt.alloc());
     add_new(rt, &mut attributes, BASH)?;
     add_new(rt, &mut attributes, CPU_0)?;
@@ -79,7 +84,10 @@ fn two_paths<R: AllocGlobal + Abort>(rt: &R) -> Result<Attributes, Fail> {
 }
 
 // The children of a node of two paths, at most two of them.
-fn children<R: AllocGlobal + Abort>(rt: &R, node: u32) -> Result<[Option<u32>; 3], Fail> {
+fn children<R: AllocGlobal + Threads + Sync + Abort>(
+    rt: &R,
+    node: u32,
+) -> Result<[Option<u32>; 3], Fail> {
     let attributes = two_paths(rt)?;
     let mut children = attributes.children(node);
     Ok([children.next(), children.next(), children.next()])

@@ -5,6 +5,7 @@ use std::alloc::AllocGlobal;
 use std::process::Abort;
 use std::str;
 use std::test::Fail;
+use std::thread::Threads;
 
 // Two threads are there before the trace, one is made, runs through interrupts and ends.
 const KINDS: &[u8] = b"hosttrace events 1\n\
@@ -30,7 +31,11 @@ const KINDS: &[u8] = b"hosttrace events 1\n\
     200 0 0 200 process 8 6 doze 5\n\
     210 0 0 210 process 10 2 odd 4\n";
 
-fn expect<R: AllocGlobal + Abort>(rt: &R, words: &str, text: &str) -> Result<(), Fail> {
+fn expect<R: AllocGlobal + Threads + Sync + Abort>(
+    rt: &R,
+    words: &str,
+    text: &str,
+) -> Result<(), Fail> {
     let ran = run_on(rt, words, "a.list", KINDS)?;
     assert_eq!(rt; str::from_utf8(&ran.err)?, "");
     assert_eq!(rt; str::from_utf8(&ran.out)?, text);

@@ -22,8 +22,14 @@ mod kind_runs;
 #[cfg(test)]
 mod lists;
 #[cfg(test)]
+mod many_events;
+#[cfg(test)]
+mod name_runs;
+#[cfg(test)]
 mod small_texts;
 #[cfg(test)]
 mod state_runs;
 #[cfg(test)]
 mod step_runs;
+#[cfg(test)]
+mod trace_runs;

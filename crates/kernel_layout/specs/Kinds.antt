@@ -7,8 +7,8 @@ use Rattle.trace_types.specs.declared.event.KernelEvent.TheVariants as kind
 use Rattle.trace_types.specs.declared.segment.SegKey.{SegKey}
 use Rattle.ctf_fields.specs.declared.field.Field.{Field}
 use Rattle.ctf_fields.specs.declared.raw.RawEvent.{RawEvent}
-use Rattle.kernel_layout.specs.declared.kinds.Woken.{Woken}
-use Rattle.kernel_layout.specs.declared.kinds.Request.{Request}
+use Rattle.trace_types.specs.declared.woken.Woken.{Woken}
+use Rattle.trace_types.specs.declared.request.Request.{Request}
 use Rattle.kernel_layout.specs.declared.tracepoint.Tracepoint.{Tracepoint}
 use Rattle.kernel_layout.specs.declared.tracepoint.Tracepoint.TheVariants as point
 use Rattle.kernel_layout.specs.Tracepoints.{layout_of}

@@ -8,7 +8,7 @@ use crate::needed::{Fields, comm, of_32, of_64, priority, small, state};
 use crate::segments::segment;
 use crate::tracepoint::Tracepoint;
 use ctf_fields::RawEvent;
-use trace_types::{Comm, KernelEvent};
+use trace_types::{KernelEvent, Request, Woken};
 use type_table::TraceMeta;
 
 /// What an event is, and whether a field is missing that its name calls for; it is then another event. A field of
@@ -112,52 +112,6 @@ fn switch(fields: Fields<'_>) -> Option<KernelEvent>
     })
 }
 
-/// The fields of a wakeup of any of its three kinds.
-#[derive(Clone, Copy)]
-struct Woken {
-    tid: u32,
-    comm: Comm,
-    prio: i32,
-    target_cpu: u32,
-}
-
-impl Woken {
-    ghost use Rattle.trace_types.specs.declared.event.KernelEvent.TheVariants as kind;
-
-    fn wakeup(self) -> KernelEvent
-        ensures { result ≡ kind.Wakeup self.tid self.comm self.prio self.target_cpu }
-    {
-        KernelEvent::Wakeup {
-            tid: self.tid,
-            comm: self.comm,
-            prio: self.prio,
-            target_cpu: self.target_cpu,
-        }
-    }
-
-    fn wakeup_new(self) -> KernelEvent
-        ensures { result ≡ kind.WakeupNew self.tid self.comm self.prio self.target_cpu }
-    {
-        KernelEvent::WakeupNew {
-            tid: self.tid,
-            comm: self.comm,
-            prio: self.prio,
-            target_cpu: self.target_cpu,
-        }
-    }
-
-    fn waking(self) -> KernelEvent
-        ensures { result ≡ kind.Waking self.tid self.comm self.prio self.target_cpu }
-    {
-        KernelEvent::Waking {
-            tid: self.tid,
-            comm: self.comm,
-            prio: self.prio,
-            target_cpu: self.target_cpu,
-        }
-    }
-}
-
 fn wakeup_fields(fields: Fields<'_>) -> Option<Woken>
     ensures { result ≡ wakeup_fields fields.entry.table.now fields.entry.root.now }
 {
@@ -207,38 +161,6 @@ fn process(fields: Fields<'_>) -> Option<KernelEvent>
         name,
         status,
     })
-}
-
-/// A request of a disk.
-#[derive(Clone, Copy)]
-struct Request {
-    sector: u64,
-    dev: u32,
-    nr_sector: u32,
-}
-
-impl Request {
-    ghost use Rattle.trace_types.specs.declared.event.KernelEvent.TheVariants as kind;
-
-    fn issue(self) -> KernelEvent
-        ensures { result ≡ kind.DiskIssue self.sector self.dev self.nr_sector }
-    {
-        KernelEvent::DiskIssue {
-            sector: self.sector,
-            dev: self.dev,
-            nr_sector: self.nr_sector,
-        }
-    }
-
-    fn done(self) -> KernelEvent
-        ensures { result ≡ kind.DiskDone self.sector self.dev self.nr_sector }
-    {
-        KernelEvent::DiskDone {
-            sector: self.sector,
-            dev: self.dev,
-            nr_sector: self.nr_sector,
-        }
-    }
 }
 
 fn disk_request(fields: Fields<'_>) -> Option<Request>

@@ -1,5 +1,6 @@
 pub mod Decimals
 pub mod Names
+pub mod SpelledBytes
 pub mod Same
 pub mod Cutting
 pub mod PathWords

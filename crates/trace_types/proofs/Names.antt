@@ -46,7 +46,7 @@ some d = by (is_plain d)
     by false = omega arith
 
 -- what is spelled first is the front of the whole
-tail_of : (done rest name : List ℕ) → AllByRecursion (λ b. b < 256) done → AllByRecursion (λ b. b < 256) name → flat_map spelled done ++ rest ≡ flat_map spelled name → (tail : List ℕ) × (name ≡ done ++ tail) × (rest ≡ flat_map spelled tail)
+pub tail_of : (done rest name : List ℕ) → AllByRecursion (λ b. b < 256) done → AllByRecursion (λ b. b < 256) name → flat_map spelled done ++ rest ≡ flat_map spelled name → (tail : List ℕ) × (name ≡ done ++ tail) × (rest ≡ flat_map spelled tail)
 tail_of [] rest name small fits e = (name, refl, e)
 tail_of (d ∷ ds) rest [] small fits e = absurd (omega (arith, some d, ap length e, length-append (spelled d ++ flat_map spelled ds) rest, length-append (spelled d) (flat_map spelled ds)))
 tail_of (d ∷ ds) rest (n ∷ ns) small fits e =
@@ -54,11 +54,11 @@ tail_of (d ∷ ds) rest (n ∷ ns) small fits e =
     let more = tail_of ds rest ns small.1 fits.1 one.1 in
     (more.0, ap₂ (λ x xs. x ∷ xs) (sym one.0) more.1, more.2)
 
-back_of : (P : ℕ → Type 0) (xs ys : List ℕ) → AllByRecursion P (xs ++ ys) → AllByRecursion P ys
+pub back_of : (P : ℕ → Type 0) (xs ys : List ℕ) → AllByRecursion P (xs ++ ys) → AllByRecursion P ys
 back_of P [] ys h = h
 back_of P (x ∷ xs) ys h = back_of P xs ys h.1
 
-both : (P : ℕ → Type 0) (xs : List ℕ) (y : ℕ) → AllByRecursion P xs → P y → AllByRecursion P (xs ++ y ∷ [])
+pub both : (P : ℕ → Type 0) (xs : List ℕ) (y : ℕ) → AllByRecursion P xs → P y → AllByRecursion P (xs ++ y ∷ [])
 both P [] y h p = (p, tt)
 both P (x ∷ xs) y h p = (h.0, both P xs y h.1 p)
 

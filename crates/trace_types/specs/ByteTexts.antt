@@ -1,5 +1,6 @@
 -- How bytes are spelled in a line of text (this project's own format).
-use Rattle.std.specs.Prelude.{ℕ, Bool, ◌+◌, ◌/◌, ◌%◌, ◌&&◌, ◌==◌, not, if◌then◌else◌, nat_le, nat_lt, List, [], ◌∷◌, flat_map}
+use Rattle.std.specs.Prelude.{◌≡◌, ◌<◌, ℕ, Bool, ◌+◌, ◌/◌, ◌%◌, ◌&&◌, ◌==◌, not, if◌then◌else◌, nat_le, nat_lt, List, [], ◌∷◌, flat_map}
+use Rattle.std.specs.List.{AllByRecursion}
 
 -- an upper-case hexadecimal digit
 abbrev pub hex_digit : ℕ → ℕ
@@ -17,3 +18,13 @@ spelled b = if is_plain b then b ∷ [] else 37 ∷ hex_digit (b / 16) ∷ hex_d
 abbrev pub byte_text : List ℕ → List ℕ
 byte_text [] = 37 ∷ []
 byte_text (b ∷ bs) = flat_map spelled (b ∷ bs)
+
+-- the word spells these bytes
+pub record IsByteText (word bytes : List ℕ) : Type 0 where
+  pub spelling : word ≡ byte_text bytes
+  pub are_bytes : AllByRecursion (λ b. b < 256) bytes
+
+-- the text is the spelling of each of these bytes, one after the other
+pub record SpellsBytes (text bytes : List ℕ) : Type 0 where
+  pub spelling : text ≡ flat_map spelled bytes
+  pub are_bytes : AllByRecursion (λ b. b < 256) bytes

@@ -1,8 +1,9 @@
 //! Bytes as a word of a line: visible ASCII as it is, all else by percent signs.
-ghost use Rattle.std.specs.Prelude.{◌≡◌, ◌≢◌, ◌<◌, ◌++◌, ◌∷◌, ℕ, List, IfSome, IfNone, OnOk, flat_map};
-ghost use Rattle.trace_types.specs.ByteTexts.{byte_text, spelled, is_plain, hex_digit};
+ghost use Rattle.std.specs.Prelude.{◌≡◌, ◌≢◌, ◌<◌, ◌++◌, ◌∷◌, ℕ, List, IfOk, IfSome, IfNone, OnOk, flat_map};
+ghost use Rattle.trace_types.specs.ByteTexts.{IsByteText, SpellsBytes, byte_text, spelled, is_plain, hex_digit};
 
-use crate::OutOfMemory;
+use crate::{OutOfMemory, Text};
+use std::alloc::Global;
 
 /// Appends bytes as one word, which has no space and no line feed. The only error is want of memory.
 pub fn write_byte_text(bytes: &[u8], out: &mut Vec<u8>) -> Result<(), OutOfMemory>
@@ -77,4 +78,33 @@ pub(crate) fn read_byte(text: &[u8]) -> Option<(u8, &[u8])>
         [byte, rest @ ..] if is_plain(*byte) => Some((*byte, rest)),
         _ => None,
     }
+}
+
+/// Reads a word that spells bytes. `None` comes exactly where it spells none, and the only error is want of memory.
+pub fn read_byte_text(alloc: Global, word: &[u8]) -> Result<Option<Text>, OutOfMemory>
+    ensures found { IfOk result (λ read. IfSome read (λ text. IsByteText word.now text)) }
+    ensures none { IfOk result (λ read. IfNone read ((bytes : List ℕ) → ¬ (IsByteText word.now bytes))) }
+{
+    match word {
+        [] => Ok(None),
+        [b'%'] => Ok(Some(Text::from_bytes(alloc, &[])?)),
+        _ => read_spelled(alloc, word),
+    }
+}
+
+// Reads a text that is the spelling of each of its bytes, one after the other.
+fn read_spelled(alloc: Global, word: &[u8]) -> Result<Option<Text>, OutOfMemory>
+    ensures found { IfOk result (λ read. IfSome read (λ text. SpellsBytes word.now text)) }
+    ensures none { IfOk result (λ read. IfNone read ((bytes : List ℕ) → ¬ (SpellsBytes word.now bytes))) }
+{
+    let mut bytes = Vec::new(alloc);
+    let mut rest = word;
+    while !rest.is_empty() {
+        let Some((byte, after)) = read_byte(rest) else {
+            return Ok(None);
+        };
+        bytes.push(byte)?;
+        rest = after;
+    }
+    Ok(Some(Text::from_vec(bytes)))
 }

@@ -63,6 +63,13 @@ impl Text {
         Ok(Text { bytes })
     }
 
+    /// A text of these bytes, which aren't copied.
+    pub fn from_vec(bytes: Vec<u8>) -> Text
+        ensures { result ≡ bytes.items }
+    {
+        Text { bytes }
+    }
+
     pub fn as_bytes(&self) -> &[u8]
         ensures { result.now ≡ self.now }
     {

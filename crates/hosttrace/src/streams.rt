@@ -1,0 +1,116 @@
+//! Reading the stream files of a trace's folder.
+ghost use Rattle.std.specs.Prelude.{◌≡◌, ◌+◌, ◌≤◌, length, filter, IfOk, IfErr, IfSome, IsPermutation};
+ghost use Rattle.std.specs.Cmp.Lexicographic.{slice_cmp};
+ghost use Rattle.std.specs.List.{AllByRecursion, AllPairs};
+ghost use Rattle.std.specs.Ordering.{nat_cmp};
+ghost use Rattle.decode_pool.specs.Hosts.{IsSmall};
+ghost use Rattle.ht_outside.specs.Files.{bytes_of};
+ghost use Rattle.hosttrace.specs.Folders.{FILES_LIMIT};
+ghost use Rattle.hosttrace.specs.Inputs.{FailsBy};
+ghost use Rattle.hosttrace.specs.Streams.{AreChosen, AreFiles, AreStreamsRead, IsNameNotAfter, StreamFits, StreamRefuses, StreamsRefuse, is_stream_name, size_of};
+
+use crate::folders::{FILES_LIMIT, is_shown, too_large};
+use crate::inputs::LIST_LIMIT;
+use crate::reading::{ReadError, read_file};
+use crate::status::{Limit, Status};
+use decode_pool::FileBytes;
+use ht_outside::Store;
+use std::alloc::Global;
+use trace_types::{OutOfMemory, Text};
+
+/// The names of stream files among those of a folder, in the order of their bytes.
+pub fn stream_names(alloc: Global, names: &[Text]) -> Result<Vec<Text>, OutOfMemory>
+    ensures { IfOk result (λ chosen. AreChosen names.now chosen.items) }
+{
+    let mut chosen = chosen_names(alloc, names)?;
+    sort_names(&mut chosen);
+    Ok(chosen)
+}
+
+// The same, in any order.
+fn chosen_names(alloc: Global, names: &[Text]) -> Result<Vec<Text>, OutOfMemory>
+    ensures { IfOk result (λ chosen. chosen.items ≡ filter is_stream_name names.now) }
+{
+    let mut chosen = Vec::new(alloc);
+    for name in names {
+        if is_stream_name(name.as_bytes()) {
+            chosen.push(Text::from_bytes(alloc, name.as_bytes())?)?;
+        }
+    }
+    Ok(chosen)
+}
+
+fn is_stream_name(name: &[u8]) -> bool
+    ensures { result ≡ is_stream_name name.now }
+{
+    is_shown(name) && name != b"metadata".as_slice()
+}
+
+fn sort_names(names: &mut [Text])
+    ensures permutation { IsPermutation names.old names.new }
+    ensures order { AllPairs IsNameNotAfter names.new }
+{
+    names.sort_unstable_by(
+        |a: &Text, b: &Text|
+            ensures { result ≡ slice_cmp nat_cmp a.now b.now }
+        { a.as_bytes().cmp(b.as_bytes()) },
+    );
+}
+
+/// The files of these names, where so many bytes of others were read before.
+pub fn read_streams<S: Store>(
+    alloc: Global,
+    dir: &[u8],
+    names: &[Text],
+    before: usize,
+    store: &mut S,
+) -> Result<Vec<FileBytes>, Status>
+    requires { before ≤ FILES_LIMIT }
+    ensures read { IfOk result (λ fs. IfSome (S.holds store.old) (λ files. AreStreamsRead files dir.now before names.now)) }
+    ensures are { IfOk result (λ fs. IfSome (S.holds store.old) (λ files. AreFiles files dir.now names.now fs.items)) }
+    ensures small { IfOk result (λ fs. AllByRecursion IsSmall fs.items) }
+    ensures fails { IfErr result (λ status. FailsBy (λ files refusal. StreamsRefuse files dir.now before names.now refusal) (S.holds store.old) (S.faults store.old) (S.faults store.new) status) }
+    ensures grows { S.faults store.old ≤ S.faults store.new }
+    ensures keeps { S.holds store.new ≡ S.holds store.old }
+{
+    let mut files = Vec::new(alloc);
+    let mut total = before;
+    for at in 0..names.len() {
+        let file = read_stream(alloc, dir, &names[at], total, store)?;
+        total += file.bytes.len();
+        files.push(file)?;
+    }
+    Ok(files)
+}
+
+// One file, where so many bytes of others were read before.
+fn read_stream<S: Store>(
+    alloc: Global,
+    dir: &[u8],
+    name: &Text,
+    before: usize,
+    store: &mut S,
+) -> Result<FileBytes, Status>
+    requires { before ≤ FILES_LIMIT }
+    ensures name { IfOk result (λ f. f.name ≡ name.now) }
+    ensures bytes { IfOk result (λ f. IfSome (S.holds store.old) (λ files. f.bytes.items ≡ bytes_of files dir.now name.now)) }
+    ensures small { IfOk result (λ f. IsSmall f) }
+    ensures fits { IfOk result (λ f. StreamFits before (length f.bytes.items)) }
+    ensures fails { IfErr result (λ status. FailsBy (λ files refusal. StreamRefuses before (size_of files dir.now name.now) refusal) (S.holds store.old) (S.faults store.old) (S.faults store.new) status) }
+    ensures grows { S.faults store.old ≤ S.faults store.new }
+    ensures keeps { S.holds store.new ≡ S.holds store.old }
+{
+    let bytes = match read_file(alloc, store, dir, name.as_bytes(), LIST_LIMIT) {
+        Ok(bytes) => bytes,
+        Err(ReadError::Fault) => return Err(Status::ReadFault),
+        Err(ReadError::TooLarge) => return Err(too_large(Limit::File)),
+        Err(ReadError::OutOfMemory) => return Err(Status::NoMemory),
+    };
+    if bytes.len() > FILES_LIMIT - before {
+        return Err(too_large(Limit::Files));
+    }
+    let Ok(name) = Text::from_bytes(alloc, name.as_bytes()) else {
+        return Err(Status::NoMemory);
+    };
+    Ok(FileBytes { name, bytes })
+}

@@ -1,0 +1,5 @@
+pub mod RowValues
+pub mod Replayed
+pub mod Listed
+pub mod AnswerLines
+pub mod CallNames

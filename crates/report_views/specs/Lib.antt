@@ -1,0 +1,5 @@
+pub mod Asked
+pub mod Rows
+pub mod Values
+pub mod StateText
+pub mod AnswersText

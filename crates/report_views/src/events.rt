@@ -1,0 +1,25 @@
+//! The text of merged events.
+ghost use Rattle.std.specs.Prelude.{◌≡◌, IfOk};
+ghost use Rattle.event_list.specs.Names.{lines_of, names_at};
+
+use event_list::{MergedTrace, write_line};
+use std::alloc::Global;
+use trace_types::{OutOfMemory, Text};
+
+const FIRST_LINE: &[u8] = b"hosttrace events 1\n";
+
+/// The list of all events. The only error is want of memory.
+pub fn events_text(alloc: Global, trace: &MergedTrace) -> Result<Vec<u8>, OutOfMemory>
+    ensures { IfOk result (λ text. text.items ≡ lines_of (names_at trace.now.names.items) trace.now.events.items) }
+{
+    let mut text = Vec::new(alloc);
+    text.extend_from_slice(FIRST_LINE)?;
+    for event in trace.events.as_slice() {
+        let names = match trace.names.get(event.event.host as usize) {
+            Some(names) => names.as_slice(),
+            None => &[],
+        };
+        write_line(event, names, &mut text)?;
+    }
+    Ok(text)
+}
