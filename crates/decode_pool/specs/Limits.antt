@@ -13,9 +13,6 @@ use Rattle.decode_pool.specs.Hosts.{IsHost, IsSmall, all_events}
 abbrev pub MAX_PACKETS : ℕ
 MAX_PACKETS = 1048576
 
-abbrev pub MAX_EVENTS : ℕ
-MAX_EVENTS = 2097152
-
 abbrev pub HasSmallFiles : HostFiles → Type 0
 HasSmallFiles host = AllByRecursion IsSmall host.files.items
 

@@ -1,7 +1,8 @@
 //! All hosts, within the limits of a run.
 ghost use Rattle.std.specs.Prelude.{◌≡◌, ◌≤◌, ◌<◌, Err, IfOk};
 ghost use Rattle.std.specs.List.{AllByRecursion};
-ghost use Rattle.decode_pool.specs.Limits.{AreHosts, HasSmallFiles, MAX_EVENTS, MAX_PACKETS, event_count, packet_count};
+ghost use Rattle.trace_types.specs.Limits.{MAX_EVENTS};
+ghost use Rattle.decode_pool.specs.Limits.{AreHosts, HasSmallFiles, MAX_PACKETS, event_count, packet_count};
 ghost use Rattle.decode_pool.specs.declared.all.DecodeError.TheVariants.{TooManyEvents, TooManyPackets};
 
 use crate::gathered::sum;
@@ -9,13 +10,10 @@ use crate::hosts::{HostFiles, host_events};
 use crate::packets::packet_count;
 use std::alloc::{AllocFailed, Global};
 use std::thread::Threads;
-use trace_types::{HostEvents, OutOfMemory};
+use trace_types::{HostEvents, MAX_EVENTS, OutOfMemory};
 
 /// The greatest number of packets of all files of a run, accepted or refused one by one.
 pub const MAX_PACKETS: u64 = 1_048_576;
-
-/// The greatest number of accepted events and of marks of a run.
-pub const MAX_EVENTS: u64 = 2_097_152;
 
 /// Why hosts can't be decoded.
 #[derive(Clone, Copy, Debug, PartialEq, Eq)]

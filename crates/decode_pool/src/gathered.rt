@@ -3,7 +3,7 @@ ghost use Rattle.std.specs.Prelude.{◌≡◌, ◌+◌, ◌++◌, IfOk, OnOk, le
 ghost use Rattle.decode_pool.specs.Hosts.{incomplete_in, refused_in};
 ghost use Rattle.decode_pool.specs.Marks.{file_events, kept_in};
 
-use crate::listing::file_events;
+use crate::listing::add_file_events;
 use crate::part::Part;
 use std::alloc::Global;
 use trace_types::{Event, OutOfMemory, RefusedPacket, Text};
@@ -30,8 +30,7 @@ pub fn add_parts(
     ensures packets { OnOk result (gathered.new.packets ≡ gathered.old.packets + length (kept_in parts.now)) }
     ensures incomplete { OnOk result (gathered.new.incomplete ≡ gathered.old.incomplete + incomplete_in (kept_in parts.now)) }
 {
-    let events = file_events(alloc, parts)?;
-    gathered.events.extend_from_slice(events.as_slice())?;
+    add_file_events(parts, &mut gathered.events)?;
     for part in parts {
         match part {
             Part::Kept(kept) => {

@@ -11,6 +11,6 @@ mod loss;
 mod packets;
 mod part;
 
-pub use all::{DecodeError, MAX_EVENTS, MAX_PACKETS, decode_all};
+pub use all::{DecodeError, MAX_PACKETS, decode_all};
 pub use files::FileBytes;
 pub use hosts::{HostFiles, host_events};

@@ -4,8 +4,6 @@ ghost use Rattle.decode_pool.specs.Marks.{added, and_lost, counts_of, file_event
 
 use crate::loss::{Counts, Loss, and_lost};
 use crate::part::{Kept, Part};
-use sqlite_items::Items;
-use std::alloc::Global;
 use trace_types::{Event, KernelEvent, OutOfMemory};
 
 const NOTHING_LOST: Loss = Loss {
@@ -13,12 +11,11 @@ const NOTHING_LOST: Loss = Loss {
     gap: false,
 };
 
-/// The events of a file's accepted packets, one behind the other. Where events of a processor are missing before a
-/// packet, a mark of it stands before the packet's first event.
-pub fn file_events(alloc: Global, parts: &[Part]) -> Result<Items<Event>, OutOfMemory>
-    ensures { IfOk result (λ events. events ≡ file_events parts.now) }
+/// Adds the events of a file's accepted packets, one behind the other. Where events of a processor are missing before
+/// a packet, a mark of it stands before the packet's first event.
+pub fn add_file_events(parts: &[Part], events: &mut Vec<Event>) -> Result<(), OutOfMemory>
+    ensures { OnOk result (events.new.items ≡ events.old.items ++ file_events parts.now) }
 {
-    let mut events = Items::new(alloc);
     let mut before = Counts {
         seq: None,
         discarded: None,
@@ -27,11 +24,11 @@ pub fn file_events(alloc: Global, parts: &[Part]) -> Result<Items<Event>, OutOfM
     for part in parts {
         if let Part::Kept(kept) = part {
             let now = counts_of(kept);
-            loss = add_packet(kept, and_lost(loss, before, now), &mut events)?;
+            loss = add_packet(kept, and_lost(loss, before, now), events)?;
             before = now;
         }
     }
-    Ok(events)
+    Ok(())
 }
 
 fn counts_of(kept: &Kept) -> Counts
@@ -44,8 +41,8 @@ fn counts_of(kept: &Kept) -> Counts
 }
 
 // Adds the events of a packet, behind a mark of what is missing before it, and tells what is missing behind it.
-fn add_packet(kept: &Kept, loss: Loss, events: &mut Items<Event>) -> Result<Loss, OutOfMemory>
-    ensures events { OnOk result (events.new ≡ events.old ++ added kept.now loss) }
+fn add_packet(kept: &Kept, loss: Loss, events: &mut Vec<Event>) -> Result<Loss, OutOfMemory>
+    ensures events { OnOk result (events.new.items ≡ events.old.items ++ added kept.now loss) }
     ensures left { IfOk result (λ l. l ≡ left kept.now loss) }
 {
     let Some(first) = kept.events.as_slice().first() else {
@@ -62,8 +59,6 @@ fn add_packet(kept: &Kept, loss: Loss, events: &mut Items<Event>) -> Result<Loss
             },
         })?;
     }
-    for event in kept.events.as_slice() {
-        events.push(*event)?;
-    }
+    events.extend_from_slice(kept.events.as_slice())?;
     Ok(NOTHING_LOST)
 }

@@ -1,12 +1,14 @@
 //! The pieces of a file with what they hold.
-ghost use Rattle.std.specs.Prelude.{◌≡◌, ◌≤◌, ◌^◌, IfOk, length};
+ghost use Rattle.std.specs.Prelude.{◌≡◌, ◌≤◌, ◌^◌, Err, IfOk, length};
 ghost use Rattle.kernel_layout.specs.Tracepoints.{layout_of};
 ghost use Rattle.packet_decoder.specs.Pieces.{LiesIn, PieceLiesIn};
-ghost use Rattle.decode_pool.specs.Parts.{event_of, packet_kept, part_of, part_of_packet};
+ghost use Rattle.packet_decoder.specs.declared.failure.Failure.TheVariants as failure;
+ghost use Rattle.trace_types.specs.declared.cause.Cause.{Cause};
+ghost use Rattle.decode_pool.specs.Parts.{part_of, part_of_packet};
+ghost use Rattle.decode_pool.specs.declared.part.Part.TheVariants as part;
 
-use ctf_fields::RawEvent;
 use kernel_layout::{Layout, kind_of};
-use packet_decoder::{Counter, PacketResult, PacketSpan, Piece, decode};
+use packet_decoder::{Counter, EventReader, Failure, PacketSpan, Piece};
 use sqlite_items::Items;
 use std::alloc::Global;
 use trace_types::{Cause, Event, OutOfMemory};
@@ -67,34 +69,36 @@ fn part_of_packet(
     requires span { LiesIn file.now span.now }
     ensures { IfOk result (λ part. part ≡ part_of_packet host meta.now file.now span.now) }
 {
-    match decode(alloc, meta, file, span)? {
-        PacketResult::Events(events) => {
-            let kept = packet_kept(alloc, host, meta, layout, span, events.as_slice())?;
-            Ok(Part::Kept(kept))
-        }
-        PacketResult::Refused { cause } => Ok(Part::Refused {
+    match keep_packet(alloc, host, meta, layout, file, span) {
+        Ok(kept) => Ok(Part::Kept(kept)),
+        Err(Failure::Refused(cause)) => Ok(Part::Refused {
             offset: span.offset,
             cause,
         }),
+        Err(Failure::OutOfMemory) => Err(OutOfMemory),
     }
 }
 
-// A packet with its events.
-fn packet_kept(
+// A packet with its events, of which each is made a kernel event as it is read, so that its fields' memory is used again.
+fn keep_packet(
     alloc: Global,
     host: u32,
     meta: &TraceMeta,
     layout: &Layout,
+    file: &[u8],
     span: &PacketSpan,
-    raws: &[RawEvent],
-) -> Result<Kept, OutOfMemory>
-    requires { layout.now ≡ layout_of meta.now }
-    ensures { IfOk result (λ k. k ≡ packet_kept host meta.now span.now raws.now) }
+) -> Result<Kept, Failure>
+    requires layout { layout.now ≡ layout_of meta.now }
+    requires file { length file.now ≤ 2 ^ 60 }
+    requires span { LiesIn file.now span.now }
+    ensures kept { IfOk result (λ k. part_of_packet host meta.now file.now span.now ≡ part.Kept k) }
+    ensures refused { (cause : Cause) → result ≡ Err (failure.Refused cause) → part_of_packet host meta.now file.now span.now ≡ part.Refused span.now.offset cause }
 {
+    let mut reader = EventReader::open(alloc, meta, file, span)?;
     let mut events = Items::new(alloc);
-    let mut incomplete = 0;
-    for raw in raws {
-        let (kind, lacks) = kind_of(meta, layout, raw);
+    let mut incomplete = 0u64;
+    while let Some(raw) = reader.next_event(alloc)? {
+        let (kind, lacks) = kind_of(meta, layout, &raw);
         events.push(Event {
             time: raw.time,
             host,
@@ -102,6 +106,7 @@ fn packet_kept(
             kind,
         })?;
         incomplete += u64::from(lacks);
+        reader.recycle(raw.fields);
     }
     Ok(Kept {
         cpu: span.cpu,

@@ -10,3 +10,5 @@ pub mod Numbered
 pub mod Options
 pub mod Listing
 pub mod Spaced
+pub mod Splitting
+pub mod Written

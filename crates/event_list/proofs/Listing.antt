@@ -7,7 +7,8 @@ use Rattle.std.proofs.lemmas.List.{get_or-replicate, get_or-take, length-map, le
 use Rattle.event_list.specs.declared.told.Told.{Told}
 use Rattle.event_list.specs.declared.numbering.Numbering.{Numbering}
 use Rattle.event_list.specs.declared.trace.MergedTrace.{MergedTrace}
-use Rattle.event_list.specs.Lines.{MAX_EVENTS, AreLines, EndsBehind, HasMany, IsLine, first_line, line_text}
+use Rattle.trace_types.specs.Limits.{MAX_EVENTS}
+use Rattle.event_list.specs.Lines.{AreLines, EndsBehind, HasMany, IsLine, first_line, line_text}
 use Rattle.event_list.specs.Names.{IsTrace, lines_of, names_at, names_of, numbered_in}
 use Rattle.event_list.specs.Numbering.{Adds, IsNumbered}
 use Rattle.event_list.specs.Order.{host_count}

@@ -14,3 +14,7 @@ on_ok (Err e) f h = h
 -- a word, and what is behind it
 pub behind_word : (old mid new word fields : List ℕ) → mid ≡ old ++ word → new ≡ mid ++ fields → new ≡ old ++ (word ++ fields)
 behind_word old mid new word fields e f = f ∙ (ap (λ l. l ++ fields) e ∙ append_assoc old word fields)
+
+pub nothing_more : {A E : Type 0} (r : Result A E) → OnOk r (Unit {0})
+nothing_more (Ok x) = tt
+nothing_more (Err e) = tt

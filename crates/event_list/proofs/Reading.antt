@@ -6,7 +6,8 @@ use Rattle.std.specs.List.{AllByRecursion, slice_split, join_with_byte}
 use Rattle.std.proofs.lemmas.List.Splits.{join_with_byte-slice_split}
 use Rattle.event_list.specs.declared.told.Told.{Told}
 use Rattle.trace_types.proofs.Decimals.{same_number, below_wide}
-use Rattle.event_list.specs.Lines.{MAX_EVENTS, told_words, told_text, events_of, first_line, AreLines, EndsBehind, HasMany, IsLine, IsTold}
+use Rattle.trace_types.specs.Limits.{MAX_EVENTS}
+use Rattle.event_list.specs.Lines.{told_words, told_text, events_of, first_line, AreLines, EndsBehind, HasMany, IsLine, IsTold}
 use Rattle.std.proofs.lemmas.Grind.{flat_map-append}
 use Rattle.event_list.specs.Order.{RiseFrom}
 use Rattle.trace_types.proofs.Cutting.{same_front, has_end}

@@ -6,3 +6,5 @@ pub mod Names
 pub mod NameWords
 pub mod Numbering
 pub mod Spaced
+pub mod Splits
+pub mod Written

@@ -9,6 +9,7 @@ use Rattle.trace_types.specs.declared.event.Merged.{Merged}
 use Rattle.trace_types.specs.declared.segment.SegKey.{SegKey}
 use Rattle.trace_types.specs.declared.event.KernelEvent.{KernelEvent}
 use Rattle.trace_types.specs.declared.event.KernelEvent.TheVariants.{Switch, Wakeup, WakeupNew, Waking, Fork, Exit, Free, Migrate, IrqIn, IrqOut, SoftIn, SoftOut, Process, Send, Receive, DiskIssue, DiskDone, Lost, CallIn, CallOut, Other}
+use Rattle.trace_types.specs.Limits.{MAX_EVENTS}
 use Rattle.trace_types.specs.Numbers.{IsNumber}
 use Rattle.event_list.specs.Order.{RiseFrom}
 use Rattle.event_list.specs.declared.told.Told.{Told}
@@ -189,10 +190,6 @@ pub record AreLines (least : ℕ) (tolds : List Told) (text : List ℕ) : Type 0
 -- the bytes are the event list of these lines
 abbrev pub IsEventList : List ℕ → List Told → Type 0
 IsEventList bytes tolds = (text : List ℕ) × (bytes ≡ first_line ++ text) × AreLines 0 tolds text
-
--- how many events a list may have
-abbrev pub MAX_EVENTS : ℕ
-MAX_EVENTS = 2097152
 
 -- more lines than a list may have stand at the front of a text
 pub record HasMany (text : List ℕ) : Type 0 where

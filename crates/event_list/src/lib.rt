@@ -12,6 +12,7 @@ mod names;
 mod numbering;
 mod one;
 mod place;
+mod split;
 mod thread;
 mod told;
 mod trace;
@@ -20,5 +21,6 @@ mod write;
 mod write_fields;
 
 pub use list::{ListError, read_list};
+pub use split::split_hosts;
 pub use trace::{MergedTrace, NameList};
 pub use write::write_line;

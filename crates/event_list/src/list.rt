@@ -1,6 +1,7 @@
 //! Reading a whole event list.
 ghost use Rattle.std.specs.Prelude.{◌≡◌, ◌≤◌, ◌<◌, ◌+◌, ℕ, List, IfOk, Err, length, take};
-ghost use Rattle.event_list.specs.Lines.{AreLines, EndsBehind, HasMany, IsCrowded, IsEventList, IsFirstBad, MAX_EVENTS};
+ghost use Rattle.trace_types.specs.Limits.{MAX_EVENTS};
+ghost use Rattle.event_list.specs.Lines.{AreLines, EndsBehind, HasMany, IsCrowded, IsEventList, IsFirstBad};
 ghost use Rattle.std.specs.List.{AllByRecursion};
 ghost use Rattle.event_list.specs.Names.{IsTrace, lines_of, names_at};
 ghost use Rattle.event_list.specs.Numbering.{IsNumbered};
@@ -14,12 +15,9 @@ use crate::numbering::Numbering;
 use crate::trace::{MergedTrace, NameList};
 use crate::words::split_words;
 use std::alloc::{AllocFailed, Global};
-use trace_types::{Merged, OutOfMemory, cut_at};
+use trace_types::{MAX_EVENTS, Merged, OutOfMemory, cut_at};
 
 const FIRST_LINE: &[u8] = b"hosttrace events 1";
-
-/// How many events a list may have.
-const MAX_EVENTS: usize = 2_097_152;
 
 /// Why a text is no event list. Lines count from 1.
 #[derive(Clone, Copy, Debug, PartialEq, Eq)]
@@ -57,6 +55,7 @@ impl From<OutOfMemory> for ListError {
 pub fn read_list(alloc: Global, bytes: &[u8]) -> Result<MergedTrace, ListError>
     ensures list { IfOk result (λ trace. (tolds : List Told) × IsEventList bytes.now tolds × IsTrace tolds trace) }
     ensures few { IfOk result (λ trace. length trace.events.items ≤ MAX_EVENTS) }
+    ensures hosts { IfOk result (λ trace. AllByRecursion (λ m. m.event.host < length trace.names.items) trace.events.items) }
     ensures again { IfOk result (λ trace. bytes.now ≡ lines_of (names_at trace.names.items) trace.events.items) }
     ensures bad { (line : ℕ) → result ≡ Err (BadLine line) → (tolds : List Told) → ¬ (IsEventList bytes.now tolds) }
     ensures line { (line : ℕ) → result ≡ Err (BadLine line) → IsFirstBad bytes.now line }
@@ -98,7 +97,7 @@ fn read_lines(alloc: Global, text: &[u8]) -> Result<Numbering, ListError>
         if told.event.key < least {
             return Err(bad_line(&read.events));
         }
-        if read.events.len() >= MAX_EVENTS {
+        if read.events.len() as u64 >= MAX_EVENTS {
             return Err(ListError::TooManyEvents);
         }
         least = told.event.key;

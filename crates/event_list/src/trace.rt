@@ -40,11 +40,7 @@ impl NameList {
     pub fn from_slice(alloc: Global, names: &[Text]) -> Result<NameList, OutOfMemory>
         ensures { IfOk result (λ list. list ≡ names.now) }
     {
-        let mut copies = Vec::new(alloc);
-        for name in names {
-            copies.push(Text::from_bytes(alloc, name.as_bytes())?)?;
-        }
-        Ok(NameList::from_vec(copies))
+        Ok(NameList::from_vec(copy_names(alloc, names)?))
     }
 
     /// The names, in order.
@@ -53,6 +49,17 @@ impl NameList {
     {
         self.names.as_slice()
     }
+}
+
+/// A copy of names.
+pub fn copy_names(alloc: Global, names: &[Text]) -> Result<Vec<Text>, OutOfMemory>
+    ensures { IfOk result (λ copies. copies.items ≡ names.now) }
+{
+    let mut copies = Vec::new(alloc);
+    for name in names {
+        copies.push(Text::from_bytes(alloc, name.as_bytes())?)?;
+    }
+    Ok(copies)
 }
 
 /// Merged events, in order, and a list of names for each host from 0 to the greatest.

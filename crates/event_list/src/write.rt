@@ -1,33 +1,46 @@
 //! Writing one line of an event list.
-ghost use Rattle.std.specs.Prelude.{◌≡◌, ◌++◌, OnOk};
-ghost use Rattle.event_list.specs.Lines.{kind_words, line_text};
+ghost use Rattle.std.specs.Prelude.{◌≡◌, ◌++◌, ◌∷◌, [], OnOk};
+ghost use Rattle.std.specs.Fmt.{decimal};
+ghost use Rattle.event_list.specs.Lines.{AreBytes, kind_words, line_text};
+ghost use Rattle.event_list.specs.Written.{texts_in};
+ghost use Rattle.std.specs.List.{AllByRecursion};
 ghost use Rattle.event_list.specs.Spaced.{spaced};
 
 use crate::thread::NamedThread;
 use crate::write_fields::{
-    append, write_loss, write_name, write_request, write_segment, write_switch, write_woken,
+    append, write_bytes, write_loss, write_name, write_number, write_request, write_segment,
+    write_switch, write_woken,
 };
-use std::io::Write;
-use trace_types::{KernelEvent, Merged, OutOfMemory, Text, write_byte_text};
+use itoa::Buffer;
+use trace_types::{Event, KernelEvent, Merged, OutOfMemory, Text};
 
 /// Appends the line of an event. `names` are those of its host. The only error is want of memory.
 #[tactic(auto, using(crate::proofs::Spaced::line_is))]
 pub fn write_line(event: &Merged, names: &[Text], out: &mut Vec<u8>) -> Result<(), OutOfMemory>
-    ensures { OnOk result (out.new.items ≡ out.old.items ++ line_text names.now event.now) }
+    ensures text { OnOk result (out.new.items ≡ out.old.items ++ line_text names.now event.now) }
+    ensures bytes { OnOk result (AllByRecursion AreBytes (texts_in names.now event.now.event.kind)) }
 {
-    let key = event.key;
-    let host = event.event.host;
-    let cpu = event.event.cpu;
-    let time = event.event.time;
-    write!(out, "{key} {host} {cpu} {time}").map_err(|_| OutOfMemory)?;
+    let mut digits = Buffer::new();
+    out.extend_from_slice(digits.format(event.key).as_bytes())?;
+    write_place(&event.event, out)?;
     write_kind(&event.event.kind, names, out)?;
     out.push(b'\n')?;
     Ok(())
 }
 
+// Appends an event's host, its processor and its own time, each with a space before it.
+fn write_place(event: &Event, out: &mut Vec<u8>) -> Result<(), OutOfMemory>
+    ensures { OnOk result (out.new.items ≡ out.old.items ++ spaced (decimal event.now.host ∷ decimal event.now.cpu ∷ decimal event.now.time ∷ [])) }
+{
+    write_number(event.host, out)?;
+    write_number(event.cpu, out)?;
+    write_number(event.time, out)
+}
+
 // Appends the words of a kind, each with a space before it.
 fn write_kind(kind: &KernelEvent, names: &[Text], out: &mut Vec<u8>) -> Result<(), OutOfMemory>
-    ensures { OnOk result (out.new.items ≡ out.old.items ++ spaced (kind_words names.now kind.now)) }
+    ensures text { OnOk result (out.new.items ≡ out.old.items ++ spaced (kind_words names.now kind.now)) }
+    ensures bytes { OnOk result (AllByRecursion AreBytes (texts_in names.now kind.now)) }
 {
     match *kind {
         KernelEvent::Switch {
@@ -84,34 +97,58 @@ fn write_kind(kind: &KernelEvent, names: &[Text], out: &mut Vec<u8>) -> Result<(
             child_tid,
             child_comm,
         } => {
-            write!(out, " fork {parent_tid} {child_tid} ").map_err(|_| OutOfMemory)?;
-            write_byte_text(child_comm.as_bytes(), out)
+            append(b" fork", out)?;
+            write_number(parent_tid, out)?;
+            write_number(child_tid, out)?;
+            write_bytes(child_comm.as_bytes(), out)
         }
-        KernelEvent::Exit { tid } => write!(out, " exit {tid}").map_err(|_| OutOfMemory),
-        KernelEvent::Free { tid } => write!(out, " free {tid}").map_err(|_| OutOfMemory),
+        KernelEvent::Exit { tid } => {
+            append(b" exit", out)?;
+            write_number(tid, out)
+        }
+        KernelEvent::Free { tid } => {
+            append(b" free", out)?;
+            write_number(tid, out)
+        }
         KernelEvent::Migrate { tid, dest_cpu } => {
-            write!(out, " migrate {tid} {dest_cpu}").map_err(|_| OutOfMemory)
+            append(b" migrate", out)?;
+            write_number(tid, out)?;
+            write_number(dest_cpu, out)
         }
-        KernelEvent::IrqIn { irq } => write!(out, " irq-in {irq}").map_err(|_| OutOfMemory),
-        KernelEvent::IrqOut { irq } => write!(out, " irq-out {irq}").map_err(|_| OutOfMemory),
-        KernelEvent::SoftIn { vec } => write!(out, " soft-in {vec}").map_err(|_| OutOfMemory),
-        KernelEvent::SoftOut { vec } => write!(out, " soft-out {vec}").map_err(|_| OutOfMemory),
+        KernelEvent::IrqIn { irq } => {
+            append(b" irq-in", out)?;
+            write_number(irq, out)
+        }
+        KernelEvent::IrqOut { irq } => {
+            append(b" irq-out", out)?;
+            write_number(irq, out)
+        }
+        KernelEvent::SoftIn { vec } => {
+            append(b" soft-in", out)?;
+            write_number(vec, out)
+        }
+        KernelEvent::SoftOut { vec } => {
+            append(b" soft-out", out)?;
+            write_number(vec, out)
+        }
         KernelEvent::Process {
             tid,
             ppid,
             name,
             status,
         } => {
-            write!(out, " process {tid} {ppid} ").map_err(|_| OutOfMemory)?;
-            write_byte_text(name.as_bytes(), out)?;
-            write!(out, " {status}").map_err(|_| OutOfMemory)
+            append(b" process", out)?;
+            write_number(tid, out)?;
+            write_number(ppid, out)?;
+            write_bytes(name.as_bytes(), out)?;
+            write_number(status, out)
         }
         KernelEvent::CallIn { name } => {
-            append(b" call-in ", out)?;
+            append(b" call-in", out)?;
             write_name(names, name, out)
         }
         KernelEvent::CallOut { name } => {
-            append(b" call-out ", out)?;
+            append(b" call-out", out)?;
             write_name(names, name, out)
         }
         KernelEvent::Send { key } => {
@@ -143,7 +180,7 @@ fn write_kind(kind: &KernelEvent, names: &[Text], out: &mut Vec<u8>) -> Result<(
             write_loss(events, gap, out)
         }
         KernelEvent::Other { name } => {
-            append(b" other ", out)?;
+            append(b" other", out)?;
             write_name(names, name, out)
         }
     }

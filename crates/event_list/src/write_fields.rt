@@ -2,11 +2,11 @@
 ghost use Rattle.std.specs.Prelude.{◌≡◌, ◌++◌, ◌∷◌, [], OnOk};
 ghost use Rattle.std.specs.Fmt.{decimal, signed_decimal};
 ghost use Rattle.trace_types.specs.ByteTexts.{byte_text};
-ghost use Rattle.event_list.specs.Lines.{loss_words, name_at, request_words, segment_words, switch_words, woken_words};
+ghost use Rattle.event_list.specs.Lines.{AreBytes, loss_words, name_at, request_words, segment_words, switch_words, woken_words};
 ghost use Rattle.event_list.specs.Spaced.{spaced};
 
 use crate::thread::NamedThread;
-use std::io::Write;
+use itoa::{Buffer, Integer};
 use trace_types::{OutOfMemory, SegKey, Text, write_byte_text};
 
 /// Appends bytes as they are.
@@ -17,14 +17,33 @@ pub fn append(bytes: &[u8], out: &mut Vec<u8>) -> Result<(), OutOfMemory>
     Ok(())
 }
 
+/// Appends a space and a number.
+pub fn write_number<I: Integer>(number: I, out: &mut Vec<u8>) -> Result<(), OutOfMemory>
+    ensures { OnOk result (out.new.items ≡ out.old.items ++ 32 ∷ I.text number) }
+{
+    let mut digits = Buffer::new();
+    out.push(b' ')?;
+    out.extend_from_slice(digits.format(number).as_bytes())?;
+    Ok(())
+}
+
+/// Appends a space and the word that stands for bytes.
+pub fn write_bytes(bytes: &[u8], out: &mut Vec<u8>) -> Result<(), OutOfMemory>
+    ensures text { OnOk result (out.new.items ≡ out.old.items ++ 32 ∷ byte_text bytes.now) }
+    ensures bytes { AreBytes bytes.now }
+{
+    out.push(b' ')?;
+    write_byte_text(bytes, out)
+}
+
 /// Appends a thread with its name and priority.
 pub fn write_thread(thread: &NamedThread, out: &mut Vec<u8>) -> Result<(), OutOfMemory>
-    ensures { OnOk result (out.new.items ≡ out.old.items ++ spaced (decimal thread.now.tid ∷ byte_text thread.now.comm ∷ signed_decimal thread.now.prio ∷ [])) }
+    ensures text { OnOk result (out.new.items ≡ out.old.items ++ spaced (decimal thread.now.tid ∷ byte_text thread.now.comm ∷ signed_decimal thread.now.prio ∷ [])) }
+    ensures bytes { OnOk result (AreBytes thread.now.comm) }
 {
-    let (tid, prio) = (thread.tid, thread.prio);
-    write!(out, " {tid} ").map_err(|_| OutOfMemory)?;
-    write_byte_text(thread.comm.as_bytes(), out)?;
-    write!(out, " {prio}").map_err(|_| OutOfMemory)
+    write_number(thread.tid, out)?;
+    write_bytes(thread.comm.as_bytes(), out)?;
+    write_number(thread.prio, out)
 }
 
 /// Appends the fields of a switch.
@@ -34,10 +53,11 @@ pub fn write_switch(
     next: &NamedThread,
     out: &mut Vec<u8>,
 ) -> Result<(), OutOfMemory>
-    ensures { OnOk result (out.new.items ≡ out.old.items ++ spaced (switch_words prev_state prev.now.tid next.now.tid prev.now.prio next.now.prio prev.now.comm next.now.comm)) }
+    ensures text { OnOk result (out.new.items ≡ out.old.items ++ spaced (switch_words prev_state prev.now.tid next.now.tid prev.now.prio next.now.prio prev.now.comm next.now.comm)) }
+    ensures bytes { OnOk result (AreBytes prev.now.comm × AreBytes next.now.comm) }
 {
     write_thread(prev, out)?;
-    write!(out, " {prev_state}").map_err(|_| OutOfMemory)?;
+    write_number(prev_state, out)?;
     write_thread(next, out)
 }
 
@@ -47,10 +67,11 @@ pub fn write_woken(
     target_cpu: u32,
     out: &mut Vec<u8>,
 ) -> Result<(), OutOfMemory>
-    ensures { OnOk result (out.new.items ≡ out.old.items ++ spaced (woken_words thread.now.tid thread.now.comm thread.now.prio target_cpu)) }
+    ensures text { OnOk result (out.new.items ≡ out.old.items ++ spaced (woken_words thread.now.tid thread.now.comm thread.now.prio target_cpu)) }
+    ensures bytes { OnOk result (AreBytes thread.now.comm) }
 {
     write_thread(thread, out)?;
-    write!(out, " {target_cpu}").map_err(|_| OutOfMemory)
+    write_number(target_cpu, out)
 }
 
 /// Appends the fields of a disk's request.
@@ -62,34 +83,46 @@ pub fn write_request(
 ) -> Result<(), OutOfMemory>
     ensures { OnOk result (out.new.items ≡ out.old.items ++ spaced (request_words sector dev nr_sector)) }
 {
-    write!(out, " {dev} {sector} {nr_sector}").map_err(|_| OutOfMemory)
+    write_number(dev, out)?;
+    write_number(sector, out)?;
+    write_number(nr_sector, out)
 }
 
 /// Appends the fields of a segment.
 pub fn write_segment(key: &SegKey, out: &mut Vec<u8>) -> Result<(), OutOfMemory>
     ensures { OnOk result (out.new.items ≡ out.old.items ++ spaced (segment_words key.now)) }
 {
-    let (saddr, daddr) = (key.saddr, key.daddr);
-    let (source_port, dest_port) = (key.source_port, key.dest_port);
-    let (seq, ack_seq, flags) = (key.seq, key.ack_seq, key.flags);
-    write!(out, " {saddr} {daddr} {source_port} {dest_port}").map_err(|_| OutOfMemory)?;
-    write!(out, " {seq} {ack_seq} {flags}").map_err(|_| OutOfMemory)
+    write_ends(key, out)?;
+    write_number(key.seq, out)?;
+    write_number(key.ack_seq, out)?;
+    write_number(key.flags, out)
+}
+
+// Appends where a segment goes from and to.
+fn write_ends(key: &SegKey, out: &mut Vec<u8>) -> Result<(), OutOfMemory>
+    ensures { OnOk result (out.new.items ≡ out.old.items ++ spaced (decimal key.now.saddr ∷ decimal key.now.daddr ∷ decimal key.now.source_port ∷ decimal key.now.dest_port ∷ [])) }
+{
+    write_number(key.saddr, out)?;
+    write_number(key.daddr, out)?;
+    write_number(key.source_port, out)?;
+    write_number(key.dest_port, out)
 }
 
 /// Appends the fields of a mark of lost events.
 pub fn write_loss(events: u64, gap: bool, out: &mut Vec<u8>) -> Result<(), OutOfMemory>
     ensures { OnOk result (out.new.items ≡ out.old.items ++ spaced (loss_words events gap)) }
 {
-    let gap = u8::from(gap);
-    write!(out, " {events} {gap}").map_err(|_| OutOfMemory)
+    write_number(events, out)?;
+    write_number(u8::from(gap), out)
 }
 
-/// Appends the name of a number.
+/// Appends a space and the name of a number.
 pub fn write_name(names: &[Text], number: u32, out: &mut Vec<u8>) -> Result<(), OutOfMemory>
-    ensures { OnOk result (out.new.items ≡ out.old.items ++ byte_text (name_at names.now number)) }
+    ensures text { OnOk result (out.new.items ≡ out.old.items ++ 32 ∷ byte_text (name_at names.now number)) }
+    ensures bytes { OnOk result (AreBytes (name_at names.now number)) }
 {
     match names.get(number as usize) {
-        Some(name) => write_byte_text(name.as_bytes(), out),
-        None => write_byte_text(b"", out),
+        Some(name) => write_bytes(name.as_bytes(), out),
+        None => write_bytes(b"", out),
     }
 }

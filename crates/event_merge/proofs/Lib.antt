@@ -1,2 +1,4 @@
-pub mod Timely
+pub mod Decoded
 pub mod Ordered
+pub mod Ranges
+pub mod KindRanges

@@ -6,12 +6,12 @@ use event_list::{MergedTrace, NameList};
 use std::alloc::Global;
 use trace_types::{HostEvents, Merged, OutOfMemory};
 
-/// The merge of one host's events: they in their order, with their own times as keys. `events.host` is 0.
+/// The merge of one host's events: they in their order, with their own times as keys. The only error is want of memory.
 pub fn merge_single(alloc: Global, host: HostEvents) -> Result<MergedTrace, OutOfMemory>
     ensures events { IfOk result (λ trace. trace.events.items ≡ merged_alone host.events.items) }
     ensures names { IfOk result (λ trace. trace.names.items ≡ host.names.items ∷ []) }
 {
-    let mut events = Vec::new(alloc);
+    let mut events = Vec::with_capacity(alloc, host.events.len())?;
     for event in host.events.as_slice() {
         events.push(Merged {
             key: event.time,
@@ -19,6 +19,6 @@ pub fn merge_single(alloc: Global, host: HostEvents) -> Result<MergedTrace, OutO
         })?;
     }
     let mut names = Vec::new(alloc);
-    names.push(NameList::from_slice(alloc, host.names.as_slice())?)?;
+    names.push(NameList::from_vec(host.names))?;
     Ok(MergedTrace { events, names })
 }

@@ -3,13 +3,13 @@ ghost use Rattle.std.specs.Prelude.{◌≤◌, ◌^◌, length};
 ghost use Rattle.std.specs.List.{AllByRecursion};
 ghost use Rattle.decode_pool.specs.Limits.{HasSmallFiles};
 
-use decode_pool::{DecodeError, FileBytes, HostFiles, MAX_EVENTS, MAX_PACKETS, decode_all};
+use decode_pool::{DecodeError, FileBytes, HostFiles, MAX_PACKETS, decode_all};
 use std::alloc::AllocGlobal;
 use std::process::Abort;
 use std::test::Fail;
 use std::thread::Threads;
 use trace_metadata::read_metadata;
-use trace_types::Text;
+use trace_types::{MAX_EVENTS, Text};
 use type_table::TraceMeta;
 
 // Each byte 8 is a packet of one byte without events.

@@ -8,14 +8,15 @@ use Rattle.known_types.specs.Traces.{Trace}
 use Rattle.trace_metadata.specs.Files.{IsTrace}
 use Rattle.trace_metadata.proofs.OneTrace.{not_refused}
 use Rattle.history_core.specs.declared.question.Question.{Question}
-use Rattle.hosttrace.specs.declared.command.Command.{Command}
-use Rattle.hosttrace.specs.declared.command.Command.TheVariants.{Plain}
-use Rattle.hosttrace.specs.declared.command.PlainCommand.{PlainCommand}
-use Rattle.hosttrace.specs.declared.command.PlainCommand.TheVariants.{Check, Events, State, Ask}
-use Rattle.hosttrace.specs.declared.command.Input.{Input}
-use Rattle.hosttrace.specs.declared.command.Input.TheVariants as input
+use Rattle.command_words.specs.declared.command.Command.{Command}
+use Rattle.command_words.specs.declared.command.Command.TheVariants.{Plain}
+use Rattle.command_words.specs.declared.command.PlainCommand.{PlainCommand}
+use Rattle.command_words.specs.declared.command.PlainCommand.TheVariants.{Check, Events, State, Ask}
+use Rattle.command_words.specs.declared.command.Input.{Input}
+use Rattle.command_words.specs.declared.command.Input.TheVariants as input
 use Rattle.decode_pool.specs.declared.hosts.HostFiles.{HostFiles}
-use Rattle.decode_pool.specs.Limits.{MAX_EVENTS, MAX_PACKETS, event_count, packet_count}
+use Rattle.trace_types.specs.Limits.{MAX_EVENTS}
+use Rattle.decode_pool.specs.Limits.{MAX_PACKETS, event_count, packet_count}
 use Rattle.hosttrace.specs.Streams.{AreStreamsRead, StreamFits, StreamRefuses, StreamsRefuse, metadata_size, size_of}
 use Rattle.hosttrace.specs.Merges.{FolderTraceRefuses, IsGoodFolder, MergeRefuses}
 use Rattle.hosttrace.specs.declared.status.ListFile.TheVariants.{Events, Questions}
@@ -29,7 +30,7 @@ use Rattle.hosttrace.specs.Folders.{FILES_LIMIT, HOST_LIMIT, METADATA_LIMIT, Are
 use Rattle.hosttrace.specs.Hosts.{AreTraces, HostsRefuse, MetadataRefuses}
 use Rattle.hosttrace.specs.Means.{AreChecked, CheckRefuses, InputRefuses, IsCrowd, IsGood, IsGoodInput, Refuses}
 use Rattle.hosttrace.specs.Outcome.{Seen, Means, IsValid, IsFaultless, IsOutcome}
-use Rattle.hosttrace.proofs.WordPlaces.{same_command}
+use Rattle.command_words.proofs.WordPlaces.{same_command}
 
 told : (seen : Option Files) (files : Files) (P : Files → Type 0) → seen ≡ Some files → IfSome seen P → P files
 told seen files P e h = subst (λ o. IfSome o P) e h

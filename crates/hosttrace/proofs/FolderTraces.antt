@@ -12,8 +12,8 @@ use Rattle.hosttrace.specs.Inputs.{FailsBy, QuestionsRefuse}
 use Rattle.hosttrace.specs.Means.{IsInput, Refuses}
 use Rattle.hosttrace.specs.Merges.{FolderTraceRefuses, IsFolderTrace, IsMergeOf, MergeRefuses}
 use Rattle.hosttrace.specs.Streams.{AreChosen, AreFiles, AreStreamNames, AreStreamsRead, HostRefuses, IsHostOf, StreamsRefuse, metadata_size}
-use Rattle.hosttrace.specs.declared.command.Input.{Input}
-use Rattle.hosttrace.specs.declared.command.PlainCommand.TheVariants.{Ask}
+use Rattle.command_words.specs.declared.command.Input.{Input}
+use Rattle.command_words.specs.declared.command.PlainCommand.TheVariants.{Ask}
 use Rattle.hosttrace.specs.declared.status.Refusal.{Refusal}
 use Rattle.hosttrace.specs.declared.status.Status.{Status}
 use Rattle.hosttrace.specs.declared.status.Status.TheVariants.{Done, Usage, Refused, ReadFault, WriteFault, NoMemory}

@@ -1,5 +1,4 @@
 pub mod Parts
-pub mod WordPlaces
 pub mod QuestionLines
 pub mod Refused
 pub mod Written

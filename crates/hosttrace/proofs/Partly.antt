@@ -3,7 +3,7 @@ use Rattle.std.proofs.Common.{inr, ℕ, List, [], Option, Some, None, sym, appen
 use Rattle.std.specs.Prelude.{IfSome}
 use Rattle.std.specs.Io.KnownBytes.{Appends}
 use Rattle.ht_outside.specs.Files.{Files}
-use Rattle.hosttrace.specs.declared.command.PlainCommand.{PlainCommand}
+use Rattle.command_words.specs.declared.command.PlainCommand.{PlainCommand}
 use Rattle.hosttrace.specs.Means.{IsOutput}
 use Rattle.hosttrace.specs.Outcome.{IsPartly}
 

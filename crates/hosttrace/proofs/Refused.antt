@@ -8,7 +8,8 @@ use Rattle.event_list.specs.Names.{IsTrace, numbered_in, names_of}
 use Rattle.event_list.proofs.Numbered.{still_rise}
 use Rattle.ht_outside.specs.Files.{Files, bytes_of}
 use Rattle.std.specs.List.{AllByRecursion}
-use Rattle.event_list.specs.Lines.{MAX_EVENTS, IsCrowded, IsEventList, IsFirstBad, IsTold}
+use Rattle.trace_types.specs.Limits.{MAX_EVENTS}
+use Rattle.event_list.specs.Lines.{IsCrowded, IsEventList, IsFirstBad, IsTold}
 use Rattle.event_list.specs.declared.list.ListError.{ListError}
 use Rattle.event_list.specs.declared.list.ListError.TheVariants as list
 use Rattle.history_core.specs.Agreement.{IsMerge}

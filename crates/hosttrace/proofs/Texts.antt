@@ -1,8 +1,10 @@
 -- The texts of inputs.
-use Rattle.std.proofs.Common.{◌≡◌, ℕ, List, [], Option, Some, None, subst}
+use Rattle.std.proofs.Common.{◌≡◌, ℕ, List, [], Option, Some, None, subst, sym}
 use Rattle.std.specs.Prelude.{IfSome, flat_map}
 use Rattle.ht_outside.specs.Files.{Files, bytes_of}
+use Rattle.event_list.specs.Lines.{IsEventList}
 use Rattle.event_list.specs.Names.{lines_of, names_at}
+use Rattle.event_list.specs.Written.{SpellBytes, tolds_of}
 use Rattle.event_list.specs.declared.trace.MergedTrace.{MergedTrace}
 use Rattle.history_core.specs.declared.question.Question.{Question}
 use Rattle.kernel_provider.specs.Replay.{state_at}
@@ -11,11 +13,12 @@ use Rattle.report_views.specs.StateText.{IsStateText}
 use Rattle.hosttrace.specs.Inputs.{AreAsked}
 use Rattle.hosttrace.specs.Merges.{IsFolderTrace}
 use Rattle.hosttrace.specs.Means.{IsAskOutput, IsEventsOutput, IsInput, IsStateOutput}
-use Rattle.hosttrace.specs.declared.command.Input.{Input}
+use Rattle.hosttrace.proofs.Merged.{reads_again}
+use Rattle.command_words.specs.declared.command.Input.{Input}
 
-pub events_output : (o : Option Files) (dir : List ℕ) (trace : MergedTrace) (text : List ℕ) → IfSome o (λ files. IsFolderTrace files dir trace) → text ≡ lines_of (names_at trace.names.items) trace.events.items → IfSome o (λ files. IsEventsOutput files dir text)
-events_output None dir trace text h is = tt
-events_output (Some files) dir trace text h is = record { trace = trace; is_trace = h; is_text = is }
+pub events_output : (o : Option Files) (dir : List ℕ) (trace : MergedTrace) (text : List ℕ) → IfSome o (λ files. IsFolderTrace files dir trace) → text ≡ lines_of (names_at trace.names.items) trace.events.items → SpellBytes (names_at trace.names.items) trace.events.items → IfSome o (λ files. IsEventsOutput files dir text)
+events_output None dir trace text h is bytes = tt
+events_output (Some files) dir trace text h is bytes = record { trace = trace; is_trace = h; is_text = is; is_list = subst (λ t. IsEventList t (tolds_of (names_at trace.names.items) trace.events.items)) (sym is) (reads_again files dir trace h bytes) }
 
 pub state_output : (o : Option Files) (source : Input) (at : ℕ) (trace : MergedTrace) (text : List ℕ) → IfSome o (λ files. IsInput source files trace) → IsStateText (names_at trace.names.items) (state_at trace.events.items at) text → IfSome o (λ files. IsStateOutput files source at text)
 state_output None source at trace text h is = tt

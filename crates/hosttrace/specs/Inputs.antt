@@ -2,7 +2,8 @@
 use Rattle.std.specs.Prelude.{ℕ, ◌<◌, ◌≤◌, List, length, count_by, Option, IfSome}
 use Rattle.ht_outside.specs.Faults.{HasRisen}
 use Rattle.ht_outside.specs.Files.{Files}
-use Rattle.event_list.specs.Lines.{MAX_EVENTS, IsCrowded, IsEventList, IsFirstBad}
+use Rattle.trace_types.specs.Limits.{MAX_EVENTS}
+use Rattle.event_list.specs.Lines.{IsCrowded, IsEventList, IsFirstBad}
 use Rattle.event_list.specs.Names.{IsTrace}
 use Rattle.event_list.specs.declared.told.Told.{Told}
 use Rattle.event_list.specs.declared.trace.MergedTrace.{MergedTrace}

@@ -1,4 +1,3 @@
-pub mod Words
 pub mod Statuses
 pub mod Reading
 pub mod Questions

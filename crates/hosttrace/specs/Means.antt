@@ -1,7 +1,9 @@
 -- What each command makes of its files.
 use Rattle.std.specs.Prelude.{◌≡◌, ◌⊎◌, ℕ, ◌<◌, ◌≤◌, List, [], flat_map, length, map}
 use Rattle.std.specs.List.{AllByRecursion}
+use Rattle.event_list.specs.Lines.{IsEventList}
 use Rattle.event_list.specs.Names.{lines_of, names_at}
+use Rattle.event_list.specs.Written.{tolds_of}
 use Rattle.event_list.specs.declared.told.Told.{Told}
 use Rattle.event_list.specs.declared.trace.MergedTrace.{MergedTrace}
 use Rattle.ht_outside.specs.Files.{Files, bytes_of}
@@ -13,10 +15,10 @@ use Rattle.hosttrace.specs.Folders.{HOST_LIMIT, AreRead, FoldersRefuse, HasManyN
 use Rattle.hosttrace.specs.Hosts.{AreTraces, HostsRefuse, host_lines}
 use Rattle.hosttrace.specs.Inputs.{IsList, IsListTrace, ListRefuses, AreAsked, QuestionsRefuse}
 use Rattle.report_views.specs.StateText.{IsStateText}
-use Rattle.hosttrace.specs.declared.command.PlainCommand.{PlainCommand}
-use Rattle.hosttrace.specs.declared.command.PlainCommand.TheVariants.{Check, Events, State, Ask}
-use Rattle.hosttrace.specs.declared.command.Input.{Input}
-use Rattle.hosttrace.specs.declared.command.Input.TheVariants as input
+use Rattle.command_words.specs.declared.command.PlainCommand.{PlainCommand}
+use Rattle.command_words.specs.declared.command.PlainCommand.TheVariants.{Check, Events, State, Ask}
+use Rattle.command_words.specs.declared.command.Input.{Input}
+use Rattle.command_words.specs.declared.command.Input.TheVariants as input
 use Rattle.hosttrace.specs.Merges.{FolderTraceRefuses, IsFolderTrace, IsGoodFolder}
 use Rattle.hosttrace.specs.declared.status.Limit.TheVariants as limit
 use Rattle.hosttrace.specs.declared.status.Refusal.{Refusal}
@@ -61,11 +63,12 @@ abbrev pub IsGoodInput : Input → Files → Type 0
 IsGoodInput (input.List file) files = (tolds : List Told) × IsList (bytes_of files [] file) tolds
 IsGoodInput (input.Folder dir) files = IsGoodFolder files dir
 
--- the list of all events of a folder's host
+-- the list of all events of a folder's host, which is a list that is read again: each line as an event of the same line
 pub record IsEventsOutput (files : Files) (dir text : List ℕ) : Type 0 where
   pub trace : MergedTrace
   pub is_trace : IsFolderTrace files dir trace
   pub is_text : text ≡ lines_of (names_at trace.names.items) trace.events.items
+  pub is_list : IsEventList text (tolds_of (names_at trace.names.items) trace.events.items)
 
 -- the text of the state at an instant, of an input
 pub record IsStateOutput (files : Files) (source : Input) (at : ℕ) (text : List ℕ) : Type 0 where

@@ -6,7 +6,8 @@ use Rattle.ht_outside.specs.Files.{Files}
 use Rattle.stable_sort.specs.Sorted.{sorted}
 use Rattle.decode_pool.specs.declared.hosts.HostFiles.{HostFiles}
 use Rattle.decode_pool.specs.Hosts.{all_events}
-use Rattle.decode_pool.specs.Limits.{MAX_EVENTS, MAX_PACKETS, event_count, packet_count}
+use Rattle.trace_types.specs.Limits.{MAX_EVENTS}
+use Rattle.decode_pool.specs.Limits.{MAX_PACKETS, event_count, packet_count}
 use Rattle.event_list.specs.declared.trace.MergedTrace.{MergedTrace}
 use Rattle.event_merge.specs.Single.{merged_alone}
 use Rattle.hosttrace.specs.Folders.{HasManyNames, IsRead, metadata_of}

@@ -6,10 +6,10 @@ use Rattle.ht_outside.specs.Files.{Files}
 use Rattle.hosttrace.specs.Inputs.{FailsBy}
 use Rattle.hosttrace.specs.Means.{IsOutput, IsGood, Refuses}
 use Rattle.hosttrace.specs.Writing.{AppendsFront}
-use Rattle.hosttrace.specs.Words.{IsCommand}
-use Rattle.hosttrace.specs.declared.command.Command.{Command}
-use Rattle.hosttrace.specs.declared.command.Command.TheVariants.{Plain}
-use Rattle.hosttrace.specs.declared.command.PlainCommand.{PlainCommand}
+use Rattle.command_words.specs.Words.{IsCommand}
+use Rattle.command_words.specs.declared.command.Command.{Command}
+use Rattle.command_words.specs.declared.command.Command.TheVariants.{Plain}
+use Rattle.command_words.specs.declared.command.PlainCommand.{PlainCommand}
 use Rattle.hosttrace.specs.declared.status.Status.{Status}
 use Rattle.hosttrace.specs.declared.status.Status.TheVariants.{Done, Usage, Refused, ReadFault, WriteFault, NoMemory}
 

@@ -7,11 +7,11 @@ ghost use Rattle.hosttrace.specs.Inputs.{LIST_LIMIT, IsListTrace, AreAsked, Fail
 ghost use Rattle.hosttrace.specs.Means.{InputRefuses, IsInput};
 ghost use Rattle.report_views.specs.Asked.{IsQuestion};
 
-use crate::command::Input;
 use crate::questions::{QuestionsError, is_crowded, read_questions};
 use crate::reading::{ReadError, read_file};
 use crate::status::{Limit, ListFile, Refusal, Status};
 use crate::traces::read_trace;
+use command_words::Input;
 use event_list::{ListError, MergedTrace, read_list};
 use history_core::Question;
 use ht_outside::Store;

@@ -1,7 +1,6 @@
 //! The commands of hosttrace: words in, a text out, and a status that says what happened.
 #![tactic(auto)]
 
-mod command;
 mod commands;
 mod folders;
 mod hosts;
@@ -12,11 +11,9 @@ mod status;
 mod status_line;
 mod streams;
 mod traces;
-mod words;
 mod writing;
 
-pub use command::{Command, Input, PlainCommand};
+pub use command_words::{Command, Input, PlainCommand, WordsError, parse_words};
 pub use commands::{run, run_plain};
 pub use status::{Limit, ListFile, Refusal, Status};
 pub use status_line::write_status;
-pub use words::{WordsError, parse_words};

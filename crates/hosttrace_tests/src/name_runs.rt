@@ -1,6 +1,6 @@
 //! System calls and other events in event lists. The expected states are worked out by hand from the state rules.
 use crate::harness::run_on;
-use event_list::{read_list, write_line};
+use event_list::{read_list, split_hosts, write_line};
 use std::alloc::AllocGlobal;
 use std::process::Abort;
 use std::str;
@@ -68,6 +68,27 @@ fn names_count_from_0_on_each_host(rt: HostRuntime) -> Result<(), Fail> {
         trace.names[1].as_slice()[0].as_bytes(),
         b"syscall_entry_openat".as_slice()
     );
+    Ok(())
+}
+
+#[test]
+fn a_merge_splits_into_its_hosts(rt: HostRuntime) -> Result<(), Fail> {
+    let trace = read_list(rt.alloc(), CALLS)?;
+    let hosts = split_hosts(&trace)?;
+    assert_eq!(&rt; hosts.len(), 2);
+    assert_eq!(&rt; hosts[0].host, 0);
+    assert_eq!(&rt; hosts[0].events.len(), 7);
+    assert_eq!(&rt; hosts[0].names.len(), 6);
+    assert_eq!(&rt; hosts[1].host, 1);
+    assert_eq!(&rt; hosts[1].hostname.as_bytes(), b"".as_slice());
+    assert_eq!(&rt; hosts[1].packets, 0);
+    assert_eq!(&rt; hosts[1].names.len(), 1);
+    assert_eq!(&rt;
+        hosts[1].names[0].as_bytes(),
+        b"syscall_entry_openat".as_slice()
+    );
+    assert_eq!(&rt; hosts[1].events.len(), 1);
+    assert_eq!(&rt; hosts[1].events[0].time, 90);
     Ok(())
 }
 

@@ -1,3 +1,4 @@
 pub mod Cuts
 pub mod Seconds
 pub mod Turns
+pub mod Left

@@ -1,14 +1,12 @@
 -- Events that are read one by one.
-use Rattle.std.proofs.Common.{◌≡◌, ◌∙◌, ℕ, zero, suc, ◌+◌, ◌-◌, ◌<◌, ◌≤◌, Bool, true, false, nat_lt, if◌then◌else◌, List, length, Result, Ok, Err, refl, sym, ap, arith}
+use Rattle.std.proofs.Common.{◌≡◌, ◌∙◌, ℕ, zero, suc, ◌<◌, ◌≤◌, Bool, true, false, nat_lt, if◌then◌else◌, List, Result, Ok, refl, ap, arith}
 use Rattle.std.proofs.lemmas.Bool.{ltb-true, ltb-false}
 use Rattle.ctf_fields.specs.declared.around.Scopes.{Scopes}
 use Rattle.ctf_fields.specs.declared.raw.RawEvent.{RawEvent}
-use Rattle.packet_decoder.specs.Events.{AnswersWith, Within, event_added, events_from}
-use Rattle.packet_decoder.specs.Headings.{Answers, and_then}
+use Rattle.packet_decoder.specs.Events.{Within, event_added, events_from}
+use Rattle.packet_decoder.specs.Headings.{and_then}
 use Rattle.trace_types.specs.declared.cause.Cause.{Cause}
 use Rattle.packet_decoder.specs.declared.events.Cursor.{Cursor}
-use Rattle.packet_decoder.specs.declared.failure.Failure.{Failure}
-use Rattle.packet_decoder.specs.declared.failure.Failure.TheVariants.{Refused, OutOfMemory}
 
 is_below : (a b : ℕ) (is : Bool) → nat_lt a b ≡ is → a < b → is ≡ true
 is_below a b true e h = refl
@@ -18,26 +16,13 @@ is_over : (a b : ℕ) (is : Bool) → nat_lt a b ≡ is → b ≤ a → is ≡ f
 is_over a b false e h = refl
 is_over a b true e h = let below = ltb-true a b e in absurd (omega (arith, below, h))
 
-step_in : (n m : ℕ) (w : Within) (s : Scopes) (done : List RawEvent) (c : Cursor) (r : Result (List RawEvent × Cursor) Cause) → n ≡ suc m → c.at < w.end → event_added w s done c ≡ r
+pub step_in : (n m : ℕ) (w : Within) (s : Scopes) (done : List RawEvent) (c : Cursor) (r : Result (List RawEvent × Cursor) Cause) → n ≡ suc m → c.at < w.end → event_added w s done c ≡ r
     → events_from n w s done c ≡ and_then r (λ next. events_from m w s next.0 next.1)
 unfolding events_from
 step_in n m w s done c r is left added =
     ap (λ k. events_from k w s done c) is
     ∙ ap (λ b. if b then and_then (event_added w s done c) (λ next. events_from m w s next.0 next.1) else Ok done) (is_below c.at w.end (nat_lt c.at w.end) refl left)
     ∙ ap (λ x. and_then x (λ next. events_from m w s next.0 next.1)) added
-
--- one event more
-pub one_event : (w : Within) (s after : Scopes) (done more : List RawEvent) (c next : Cursor) → length done ≤ c.at → c.at < w.end → length more ≡ length done + 1 → after ≡ s → event_added w s done c ≡ Ok (more, next)
-    → events_from (w.end - length done) w s done c ≡ events_from (w.end - length more) w after more next
-one_event w s after done more c next few left grows same added =
-    step_in (w.end - length done) (w.end - length more) w s done c (Ok (more, next)) (omega (arith, few, left, grows)) left added
-    ∙ ap (λ x. events_from (w.end - length more) w x more next) (sym same)
-
-pub no_event : (w : Within) (s : Scopes) (done after : List RawEvent) (c : Cursor) (e : Failure) (x : Result (List RawEvent) Cause) → length done ≤ c.at → c.at < w.end → events_from (w.end - length done) w s done c ≡ x
-    → AnswersWith (event_added w s done c) after (Err e) → Answers x (Err e)
-no_event w s done after c OutOfMemory x few left is h = tt
-no_event w s done after c (Refused cause) x few left is h =
-    sym is ∙ step_in (w.end - length done) (w.end - length done - 1) w s done c (Err cause) (omega (arith, few, left)) left h
 
 -- at the end
 pub all_events : (n : ℕ) (w : Within) (s : Scopes) (done : List RawEvent) (c : Cursor) → w.end ≤ c.at → events_from n w s done c ≡ Ok done

@@ -1,5 +1,5 @@
 -- The events of a packet (CTF 1.8, section 6; the order of the checks is this project's own).
-use Rattle.std.specs.Prelude.{◌≡◌, ℕ, zero, suc, nat_eq, nat_lt, List, [], ◌∷◌, ◌++◌, drop, Option, Some, None, Result, Ok, Err, codes, option_map, position, slice_get, if◌then◌else◌}
+use Rattle.std.specs.Prelude.{ℕ, zero, suc, nat_eq, nat_lt, List, [], ◌∷◌, ◌++◌, drop, Option, Some, None, Result, Ok, Err, codes, option_map, position, slice_get, if◌then◌else◌}
 use Rattle.std.specs.Map.{keys_of}
 use Rattle.type_table.specs.ToldKept.{MetaParts, same_event}
 use Rattle.type_table.specs.declared.told.EventParts.{EventParts}
@@ -20,8 +20,6 @@ use Rattle.trace_types.specs.declared.cause.Cause.{Cause}
 use Rattle.trace_types.specs.declared.cause.Cause.TheVariants as cause
 use Rattle.packet_decoder.specs.declared.events.Cursor.{Cursor}
 use Rattle.packet_decoder.specs.declared.events.EventHead.{EventHead}
-use Rattle.packet_decoder.specs.declared.failure.Failure.{Failure}
-use Rattle.packet_decoder.specs.declared.failure.Failure.TheVariants as failure
 use Rattle.packet_decoder.specs.declared.heading.Heading.{Heading}
 use Rattle.packet_decoder.specs.declared.piece.PacketResult.{PacketResult}
 use Rattle.packet_decoder.specs.declared.piece.PacketResult.TheVariants as result
@@ -117,12 +115,6 @@ event w s c =
 -- with the next event behind those that were read
 abbrev pub event_added : Within → Scopes → List RawEvent → Cursor → Result (List RawEvent × Cursor) Cause
 event_added w s done c = and_then (event w s c) (λ r. Ok (done ++ r.0 ∷ [], r.1))
-
--- a call answers where the next event is read, and leaves this list; want of memory is the one free answer
-abbrev pub AnswersWith : Result (List RawEvent × Cursor) Cause → List RawEvent → Result Cursor Failure → Type 0
-AnswersWith answer after (Ok next) = answer ≡ Ok (after, next)
-AnswersWith answer after (Err (failure.Refused cause)) = answer ≡ Err cause
-AnswersWith answer after (Err failure.OutOfMemory) = Unit {0}
 
 -- the events from a place on, behind those that were read, of which each takes a bit at least: so many at most
 unfoldable pub events_from : ℕ → Within → Scopes → List RawEvent → Cursor → Result (List RawEvent) Cause

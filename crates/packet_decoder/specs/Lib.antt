@@ -3,3 +3,4 @@ pub mod Headings
 pub mod Pieces
 pub mod Times
 pub mod Values
+pub mod Unread

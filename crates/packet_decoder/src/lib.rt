@@ -7,9 +7,12 @@ mod events;
 mod failure;
 mod heading;
 mod piece;
+mod reader;
 mod times;
 mod values;
 
 pub use cutting::cut;
 pub use decoding::decode;
+pub use failure::Failure;
 pub use piece::{Counter, PacketResult, PacketSpan, Piece};
+pub use reader::EventReader;

@@ -5,3 +5,4 @@ pub mod Same
 pub mod Cutting
 pub mod PathWords
 pub mod Everywhere
+pub mod PlainBytes

@@ -5,3 +5,4 @@ pub mod Numbers
 pub mod Paths
 pub mod Same
 pub mod Order
+pub mod Limits

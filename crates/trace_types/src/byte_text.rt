@@ -1,5 +1,6 @@
 //! Bytes as a word of a line: visible ASCII as it is, all else by percent signs.
-ghost use Rattle.std.specs.Prelude.{◌≡◌, ◌≢◌, ◌<◌, ◌++◌, ◌∷◌, ℕ, List, IfOk, IfSome, IfNone, OnOk, flat_map};
+ghost use Rattle.std.specs.Prelude.{◌≡◌, ◌≢◌, ◌<◌, ◌≤◌, ◌++◌, ◌∷◌, ℕ, List, IfOk, IfSome, IfNone, OnOk, flat_map, length};
+ghost use Rattle.std.specs.List.{prefix_len};
 ghost use Rattle.trace_types.specs.ByteTexts.{IsByteText, SpellsBytes, byte_text, spelled, is_plain, hex_digit};
 
 use crate::{OutOfMemory, Text};
@@ -12,10 +13,34 @@ pub fn write_byte_text(bytes: &[u8], out: &mut Vec<u8>) -> Result<(), OutOfMemor
     if bytes.is_empty() {
         out.push(b'%')?;
     }
+    write_spelled(bytes, out)
+}
+
+// The same, where those bytes before the first that doesn't stand for itself go as they are, in one piece.
+fn write_spelled(bytes: &[u8], out: &mut Vec<u8>) -> Result<(), OutOfMemory>
+    ensures ok { OnOk result (out.new.items ≡ out.old.items ++ flat_map spelled bytes.now) }
+{
+    let (plain, others) = bytes.split_at(plain_len(bytes));
+    out.extend_from_slice(plain)?;
+    write_each(others, out)
+}
+
+// Appends the spelling of each byte.
+fn write_each(bytes: &[u8], out: &mut Vec<u8>) -> Result<(), OutOfMemory>
+    ensures ok { OnOk result (out.new.items ≡ out.old.items ++ flat_map spelled bytes.now) }
+{
     for byte in bytes {
         write_byte(*byte, out)?;
     }
     Ok(())
+}
+
+// How many bytes stand before the first that doesn't stand for itself.
+fn plain_len(bytes: &[u8]) -> usize
+    ensures is { result ≡ prefix_len is_plain bytes.now }
+    ensures within { result ≤ length bytes.now }
+{
+    bytes.iter().take_while(|byte| is_plain(**byte)).count()
 }
 
 fn write_byte(byte: u8, out: &mut Vec<u8>) -> Result<(), OutOfMemory>

@@ -23,7 +23,7 @@ pub use byte_text::{read_byte_text, write_byte_text};
 pub use cause::Cause;
 pub use comm::{Comm, read_comm};
 pub use cut::cut_at;
-pub use event::{Event, KernelEvent, Merged, TIME_END};
+pub use event::{Event, KernelEvent, MAX_EVENTS, Merged, TIME_END};
 pub use host::{HostEvents, RefusedPacket};
 pub use memory::OutOfMemory;
 pub use number::{read_number, read_number_below, read_signed};

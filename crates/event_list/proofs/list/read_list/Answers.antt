@@ -1,6 +1,7 @@
 use Rattle.std.proofs.Common.{rules, inl, refl, ◌∙◌}
 use Rattle.event_list.proofs.Listing.{is_trace, tables_enough, written_again}
 use Rattle.event_list.proofs.Reading.{begins_so, other_first}
+use Rattle.event_list.proofs.Splitting.{have_names}
 use Rattle.event_list.proofs.list.read_list.Goals as goal
 
 pub returns-then-ne-clause-bad : goal.returns-then-ne-clause-bad
@@ -20,3 +21,6 @@ returns-clause-list c = (c.in_ok-events.ensures.lines.0, (c.in-Some.text.now, be
 
 pub returns-clause-again : goal.returns-clause-again
 returns-clause-again c = begins_so c.args.bytes.now c.in-Some.first.now c.in-Some.text.now c.ne.result c.in-Some.ensures.found.0 c.ne.ensures c.if-ne.false ∙ written_again c.in-Some.text.now c.in_ok-events.ensures.lines.0 c.in_ok-events.field-0 (record { events = c.in_ok-events.field-0.events; names = c.in_ok-names.names }) c.in_ok-events.ensures.lines.1 c.in_ok-events.ensures.lines.2 refl (rw c.in_ok-names.ensures (rw (c.host_count.ensures, c.deref.ensures.value, c.deref-2.ensures.value) refl))
+
+pub returns-clause-hosts : goal.returns-clause-hosts
+returns-clause-hosts c = have_names c.in_ok-events.ensures.lines.0 (record { events = c.in_ok-events.field-0.events; names = c.in_ok-names.names }) (is_trace c.in-Some.text.now c.in_ok-events.ensures.lines.0 c.in_ok-events.field-0 _ c.in_ok-events.ensures.lines.1 c.in_ok-events.ensures.lines.2 refl (rw c.in_ok-names.ensures (rw (c.host_count.ensures, c.deref.ensures.value, c.deref-2.ensures.value) refl)))

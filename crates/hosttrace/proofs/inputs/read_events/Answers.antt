@@ -1,5 +1,6 @@
 use Rattle.std.proofs.Common.{◌≡◌, ◌<◌, length, ap, subst, Err, rules}
-use Rattle.event_list.specs.Lines.{MAX_EVENTS, IsCrowded, IsEventList, IsFirstBad}
+use Rattle.trace_types.specs.Limits.{MAX_EVENTS}
+use Rattle.event_list.specs.Lines.{IsCrowded, IsEventList, IsFirstBad}
 use Rattle.hosttrace.specs.Statuses.{list_status}
 use Rattle.hosttrace.proofs.Refused.{at_err, list_fails, is_merge}
 use Rattle.hosttrace.proofs.inputs.read_events.Goals as goal

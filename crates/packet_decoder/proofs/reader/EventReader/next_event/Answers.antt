@@ -1,0 +1,29 @@
+use Rattle.std.proofs.Common.{◌≡◌, ◌∙◌, ◌<◌, ◌≤◌, ◌-◌, subst, sym, ap, Ok, Err, [], ◌+◌}
+use Rattle.std.proofs.lemmas.Result.{err_from_is_err_and}
+use Rattle.packet_decoder.specs.Events.{cleared}
+use Rattle.packet_decoder.specs.Unread.{and_before, events_left}
+use Rattle.packet_decoder.specs.declared.failure.Failure.TheVariants as failure
+use Rattle.packet_decoder.proofs.Left.{one_read, refused_by}
+use Rattle.packet_decoder.proofs.Turns.{all_events}
+use Rattle.packet_decoder.proofs.reader.EventReader.next_event.Goals as goal
+
+pub returns-then-self-clause-none : goal.returns-then-self-clause-none
+returns-then-self-clause-none c =
+    let r = c.self.inside in
+    let over : r.packet.end ≤ r.cursor.at = subst (λ i. i.packet.end ≤ i.cursor.at) c.self-inside.view_is c.if-self.true in
+    subst (λ u. events_left u ≡ Ok []) c.self.view_is (all_events (r.packet.end - r.read) r.packet (cleared r.scopes) [] r.cursor over)
+
+pub returns-in_err-event-clause-refused : goal.returns-in_err-event-clause-refused
+returns-in_err-event-clause-refused c = λ cause e.
+    let r = c.self.inside in
+    let left : r.cursor.at < r.packet.end = subst (λ i. i.cursor.at < i.packet.end) c.self-inside.view_is c.if-self.false in
+    let out = err_from_is_err_and c.from_residual.result c.from_residual.ensures.1 in
+    let same : Err (failure.Refused cause) ≡ Err c.in_err-event.field-0.0 = sym e ∙ (out.1 ∙ ap Err out.2) in
+    subst (λ u. events_left u ≡ Err cause) c.self.view_is (refused_by r.packet (cleared r.scopes) r.cursor r.read cause c.in_err-event.field-0.0 same c.self.invariant.0 left c.in_err-event.ensures.answers)
+
+pub returns-clause-some : goal.returns-clause-some
+returns-clause-some c =
+    let r = c.self.inside in
+    let left : r.cursor.at < r.packet.end = subst (λ i. i.cursor.at < i.packet.end) c.self-inside.view_is c.if-self.false in
+    subst (λ u. events_left u ≡ and_before c.in_ok-event.event (events_left (record { within = r.packet; scopes = cleared c.read_event.new.scopes; cursor = c.in_ok-event.next; read = r.read + 1 }))) c.self.view_is
+    (one_read r.packet (cleared r.scopes) (cleared c.read_event.new.scopes) r.cursor c.in_ok-event.next r.read c.in_ok-event.event c.self.invariant.0 left c.in_ok-event.ensures.stays c.in_ok-event.ensures.answers)

@@ -1,0 +1,113 @@
+//! The events of a packet, read one by one.
+ghost use Rattle.std.specs.Prelude.{◌≡◌, ◌≤◌, ◌<◌, ◌+◌, ◌^◌, Ok, Err, IfOk, IfSome, IfNone, [], length};
+ghost use Rattle.packet_decoder.specs.Events.{as_packet, decoded};
+ghost use Rattle.packet_decoder.specs.Pieces.{LiesIn};
+ghost use Rattle.packet_decoder.specs.Unread.{and_before, events_left};
+ghost use Rattle.packet_decoder.specs.declared.failure.Failure.TheVariants as failure;
+ghost use Rattle.packet_decoder.specs.declared.piece.PacketResult.TheVariants as packet;
+ghost use Rattle.trace_types.specs.declared.cause.Cause.{Cause};
+
+use crate::cutting::bytes_from;
+use crate::events::{Cursor, Packet, read_event};
+use crate::failure::Failure;
+use crate::heading::read_heading;
+use crate::piece::PacketSpan;
+use ctf_fields::{BitSpan, Field, RawEvent, Scopes, Scratch};
+use std::alloc::Global;
+use std::marker::Model;
+use type_table::TraceMeta;
+
+/// A packet whose events are read one by one.
+#[derive(Drop)]
+pub struct EventReader<'a> {
+    packet: Packet<'a>,
+    scopes: Scopes,
+    scratch: Scratch,
+    cursor: Cursor,
+    read: u64,
+}
+
+impl<'a> Model for EventReader<'a> {
+    ghost use Rattle.std.specs.Prelude.{◌≤◌, ◌^◌};
+    ghost use Rattle.packet_decoder.specs.Events.{cleared};
+    ghost use Rattle.packet_decoder.specs.Unread.{Unread};
+    ghost use Rattle.ctf_fields.specs.contracts.field.Field as field;
+    ghost use Rattle.std.specs.Coded.{codes};
+
+    ghost Value = { Unread };
+
+    ghost coded = { Prim.hlevel (codes, field.the_row.coded) };
+
+    ghost view = { λ r. record { within = r.packet; scopes = cleared r.scopes; cursor = r.cursor; read = r.read } };
+
+    ghost invariant = { λ r. (r.read ≤ r.cursor.at) × (r.cursor.at ≤ 2 ^ 63) };
+}
+
+impl<'a> EventReader<'a> {
+    /// Before the first event of a packet of a file.
+    #[tactic(auto, unfolding(crate::specs::Events::decoded, crate::specs::Events::packet_events))]
+    pub fn open(
+        alloc: Global,
+        meta: &'a TraceMeta,
+        file: &'a [u8],
+        span: &PacketSpan,
+    ) -> Result<EventReader<'a>, Failure>
+        requires file { length file.now ≤ 2 ^ 60 }
+        requires span { LiesIn file.now span.now }
+        ensures opened { IfOk result (λ r. decoded meta.now file.now span.now ≡ as_packet (events_left r)) }
+        ensures first { IfOk result (λ r. r.read ≡ 0) }
+        ensures refused { (cause : Cause) → result ≡ Err (failure.Refused cause) → decoded meta.now file.now span.now ≡ packet.Refused cause }
+    {
+        let rest = bytes_from(file, span.offset);
+        let heading = read_heading(alloc, meta, rest)?;
+        Ok(EventReader {
+            packet: Packet {
+                meta,
+                bits: BitSpan {
+                    bytes: rest,
+                    end: span.content_bits,
+                },
+                stream: heading.stream,
+                parts: heading.parts,
+                cpu: span.cpu,
+            },
+            scopes: heading.scopes,
+            scratch: Scratch::new(alloc),
+            cursor: Cursor {
+                clock: span.begin,
+                at: span.start_bit,
+            },
+            read: 0,
+        })
+    }
+
+    /// The next event, and none behind the last.
+    pub fn next_event(&mut self, alloc: Global) -> Result<Option<RawEvent>, Failure>
+        ensures none { IfOk result (λ next. IfNone next (events_left self.old ≡ Ok [])) }
+        ensures some { IfOk result (λ next. IfSome next (λ raw. events_left self.old ≡ and_before raw (events_left self.new))) }
+        ensures counts { IfOk result (λ next. IfSome next (λ raw. (self.new.read ≡ self.old.read + 1) × (self.new.read ≤ 2 ^ 63) × (self.old.read < self.old.within.end))) }
+        ensures within { IfOk result (λ next. IfSome next (λ raw. self.new.within ≡ self.old.within)) }
+        ensures refused { (cause : Cause) → result ≡ Err (failure.Refused cause) → events_left self.old ≡ Err cause }
+    {
+        if self.cursor.at >= self.packet.bits.end {
+            return Ok(None);
+        }
+        let (event, next) = read_event(
+            alloc,
+            &self.packet,
+            &mut self.scopes,
+            &mut self.scratch,
+            self.cursor,
+        )?;
+        self.cursor = next;
+        self.read += 1;
+        Ok(Some(event))
+    }
+
+    /// Takes the memory of an event's fields that are no longer needed.
+    pub fn recycle(&mut self, fields: Field)
+        ensures { self.new ≡ self.old }
+    {
+        self.scratch.recycle(fields);
+    }
+}
