@@ -2,3 +2,4 @@ pub mod Collected
 pub mod Counted
 pub mod Taken
 pub mod Reading
+pub mod Cutting

@@ -1,5 +1,5 @@
 -- The events of a host, of all of its files (the order of the files is that of their names' bytes, where they come from a folder; this project's own).
-use Rattle.std.specs.Prelude.{◌≡◌, ◌≤◌, ◌^◌, ◌+◌, ℕ, List, [], ◌∷◌, ◌++◌, length, unwrap_or}
+use Rattle.std.specs.Prelude.{◌≡◌, ◌≤◌, ◌^◌, ◌+◌, ℕ, List, [], ◌∷◌, ◌++◌, length, map, unwrap_or}
 use Rattle.type_table.specs.ToldKept.{MetaParts}
 use Rattle.trace_types.specs.declared.event.Event.{Event}
 use Rattle.trace_types.specs.declared.host.HostEvents.{HostEvents}
@@ -29,6 +29,14 @@ incomplete_in [] = 0
 incomplete_in (k ∷ ks) = k.incomplete + incomplete_in ks
 
 -- ---- of all files, one behind the other
+
+-- what their pieces hold, and how many pieces each has
+abbrev pub all_parts : ℕ → MetaParts → List FileBytes → List Part
+all_parts host meta [] = []
+all_parts host meta (f ∷ fs) = parts_of host meta f.bytes.items ++ all_parts host meta fs
+
+abbrev pub part_counts : ℕ → MetaParts → List FileBytes → List ℕ
+part_counts host meta fs = map (λ f. length (parts_of host meta f.bytes.items)) fs
 
 abbrev pub all_events : ℕ → MetaParts → List FileBytes → List Event
 all_events host meta [] = []

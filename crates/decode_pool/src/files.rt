@@ -3,9 +3,12 @@ ghost use Rattle.std.specs.Prelude.{◌≡◌, ◌≤◌, ◌^◌, All, IfOk, le
 ghost use Rattle.kernel_layout.specs.Tracepoints.{layout_of};
 ghost use Rattle.packet_decoder.specs.Pieces.{AllLieIn};
 ghost use Rattle.decode_pool.specs.Jobs.{CanDecode, job_part};
+ghost use Rattle.std.specs.List.{AllByRecursion};
+ghost use Rattle.decode_pool.specs.Hosts.{IsSmall, all_parts, part_counts};
 ghost use Rattle.decode_pool.specs.Parts.{part_of, parts_of};
 
 use crate::decoding::{Job, decode_jobs};
+use crate::hosts::HostFiles;
 use crate::part::Part;
 use kernel_layout::Layout;
 use packet_decoder::{Piece, cut};
@@ -21,22 +24,46 @@ pub struct FileBytes {
     pub bytes: Vec<u8>,
 }
 
-/// What all pieces of a file hold. `layout` is that of the trace.
-pub fn file_parts(
+/// What all pieces of a host's files hold, one file behind the other, and how many pieces each file has. The packets of
+/// all files are decoded side by side. `layout` is that of the trace.
+pub fn host_parts(
     rt: &(impl Threads + Sync),
     alloc: Global,
-    host: u32,
-    meta: &TraceMeta,
+    host: &HostFiles,
     layout: &Layout,
-    file: &[u8],
-) -> Result<Vec<Part>, OutOfMemory>
+) -> Result<(Vec<Part>, Vec<usize>), OutOfMemory>
+    requires layout { layout.now ≡ layout_of host.now.meta }
+    requires files { AllByRecursion IsSmall host.now.files.items }
+    ensures parts { IfOk result (λ r. r.0.items ≡ all_parts host.now.host host.now.meta host.now.files.items) }
+    ensures counts { IfOk result (λ r. r.1.items ≡ part_counts host.now.host host.now.meta host.now.files.items) }
+{
+    let mut jobs = Vec::new(alloc);
+    let mut counts = Vec::new(alloc);
+    for file in host.files.as_slice() {
+        let own = file_jobs(alloc, host.host, &host.meta, layout, &file.bytes)?;
+        counts.push(own.len())?;
+        jobs.extend_from_slice(&own)?;
+    }
+    let parts = decode_jobs(rt, alloc, &jobs)?;
+    Ok((parts, counts))
+}
+
+// The pieces of a file, each with what decoding it needs.
+fn file_jobs<'a>(
+    alloc: Global,
+    host: u32,
+    meta: &'a TraceMeta,
+    layout: &'a Layout,
+    file: &'a [u8],
+) -> Result<Vec<Job<'a>>, OutOfMemory>
     requires layout { layout.now ≡ layout_of meta.now }
     requires file { length file.now ≤ 2 ^ 60 }
-    ensures { IfOk result (λ parts. parts.items ≡ parts_of host meta.now file.now) }
+    ensures can { IfOk result (λ jobs. All CanDecode jobs.items) }
+    ensures parts { IfOk result (λ jobs. map job_part jobs.items ≡ parts_of host meta.now file.now) }
+    ensures count { IfOk result (λ jobs. length jobs.items ≡ length (parts_of host meta.now file.now)) }
 {
     let pieces = cut(alloc, meta, file)?;
-    let jobs = jobs_of(alloc, host, meta, layout, file, pieces.as_slice())?;
-    decode_jobs(rt, alloc, &jobs)
+    jobs_of(alloc, host, meta, layout, file, pieces.as_slice())
 }
 
 fn jobs_of<'a>(

@@ -4,7 +4,7 @@ ghost use Rattle.std.specs.List.{AllByRecursion};
 ghost use Rattle.kernel_layout.specs.Tracepoints.{layout_of};
 ghost use Rattle.decode_pool.specs.Hosts.{IsHost, IsSmall, all_events, all_incomplete, all_packets, all_refused};
 
-use crate::files::{FileBytes, file_parts};
+use crate::files::{FileBytes, host_parts};
 use crate::gathered::{Gathered, add_parts};
 use kernel_layout::Layout;
 use stable_sort::sort_by_time;
@@ -67,9 +67,12 @@ fn gather(
         packets: 0,
         incomplete: 0,
     };
-    for file in host.files.as_slice() {
-        let parts = file_parts(rt, alloc, host.host, &host.meta, layout, &file.bytes)?;
-        add_parts(alloc, &file.name, &parts, &mut gathered)?;
+    let (parts, counts) = host_parts(rt, alloc, host, layout)?;
+    let mut left = parts.as_slice();
+    for at in 0..host.files.len() {
+        let (own, behind) = left.split_at(counts[at]);
+        add_parts(alloc, &host.files[at].name, own, &mut gathered)?;
+        left = behind;
     }
     Ok(gathered)
 }
