@@ -4,9 +4,11 @@
 //! nanoseconds that five runs of each step took on each file. `events METADATA FILE..` prints what the
 //! stream files of a trace hold, `decode METADATA FILE..` how long cutting and decoding them takes, and
 //! `pool METADATA FILE..` how long making the host's list of events takes, on all processors.
+//! `matches EVENTS..` makes so many network events in memory, and prints how long matching them takes.
 #![tactic(auto)]
 
 mod counts;
+mod messages;
 mod pool;
 mod streams;
 mod times;
@@ -24,6 +26,7 @@ fn main(rt: HostRuntime) -> anyhow::Result<ExitCode> {
     };
     match command.as_str() {
         "count" | "time" => each_metadata(&rt, command.as_str(), files),
+        "matches" => each_number(&rt, files),
         "pool" => match files.split_first() {
             Some((metadata, files)) => {
                 pool::print_pool_time(&rt, &rt, metadata.as_str(), files)?;
@@ -46,6 +49,13 @@ fn each_metadata(rt: &HostRuntime, command: &str, files: &[String]) -> anyhow::R
     Ok(ExitCode::SUCCESS)
 }
 
+fn each_number(rt: &HostRuntime, numbers: &[String]) -> anyhow::Result<ExitCode> {
+    for events in numbers {
+        messages::print_matches_time(rt, events.as_str())?;
+    }
+    Ok(ExitCode::SUCCESS)
+}
+
 fn each_trace(rt: &HostRuntime, command: &str, files: &[String]) -> anyhow::Result<ExitCode> {
     let Some((metadata, files)) = files.split_first() else {
         return usage(rt);
@@ -59,6 +69,8 @@ fn each_trace(rt: &HostRuntime, command: &str, files: &[String]) -> anyhow::Resu
 }
 
 fn usage(rt: &HostRuntime) -> anyhow::Result<ExitCode> {
-    eprintln!(rt; "usage: hosttrace_bench count|time FILE.. | events|decode|pool METADATA FILE..")?;
+    eprintln!(rt;
+        "usage: hosttrace_bench count|time FILE.. | events|decode|pool METADATA FILE.. | matches EVENTS.."
+    )?;
     Ok(ExitCode::FAILURE)
 }

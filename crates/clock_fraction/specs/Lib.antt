@@ -1,0 +1,2 @@
+pub mod ClockMap
+pub mod Fractions

@@ -1,0 +1,9 @@
+pub mod Tables
+pub mod Changes
+pub mod OneMore
+pub mod Lists
+pub mod Outcome
+pub mod Seen
+pub mod SoFar
+pub mod Passes
+pub mod OneAnswer

@@ -1,0 +1,9 @@
+//! Tests of the messages between hosts.
+#![tactic(auto)]
+
+#[cfg(test)]
+mod matched;
+#[cfg(test)]
+mod refused;
+#[cfg(test)]
+mod traffic;
