@@ -330,10 +330,10 @@ module _ {f l n : List (Option ℕ)} (nodes : List Prefix) (links : AreLinked no
       let low : k < 0 + length nodes = last_high None (places (is_child r) 0 nodes) (0 + length nodes) k (λ m g. absurd (cc)) (places_high (is_child r) 0 nodes) (is ∙ e) in
       omega (arith, low)
 
-  pub linked_push : (q r : Prefix) (u : ℕ) (a b : Option ℕ) → parent_of q ≡ Some r → slice_get nodes u ≡ Some r → list_any (same_prefix q) nodes ≡ false → IsDistinct same_prefix (nodes ++ q ∷ []) → length (nodes ++ q ∷ []) < 4294967296
+  pub linked_push : (q r : Prefix) (u : ℕ) (a b : Option ℕ) → parent_of q ≡ Some r → slice_get nodes u ≡ Some r → list_any (same_prefix q) nodes ≡ false → IsDistinct same_prefix (nodes ++ q ∷ [])
       → slice_get f u ≡ Some a → slice_get l u ≡ Some b
       → AreLinked (nodes ++ q ∷ []) (slice_set f u (Some (unwrap_or a (length nodes))) ++ None ∷ []) (slice_set l u (Some (length nodes)) ++ None ∷ []) (with_next n b (length nodes) ++ None ∷ [])
-  linked_push q r u a b parent stands new distinct small first last =
+  linked_push q r u a b parent stands new distinct first last =
       let first_is : first_of (places (is_child r) 0 nodes) ≡ a = map_at (λ p. first_of (places (is_child p) 0 nodes)) nodes u a (ap (λ x. slice_get x u) (sym links.first) ∙ first) r stands in
       let last_is : last_from None (places (is_child r) 0 nodes) ≡ b = map_at (λ p. last_from None (places (is_child p) 0 nodes)) nodes u b (ap (λ x. slice_get x u) (sym links.last) ∙ last) r stands in
       record {
@@ -342,7 +342,6 @@ module _ {f l n : List (Option ℕ)} (nodes : List Prefix) (links : AreLinked no
         next = ap (λ x. with_next x b (length nodes) ++ None ∷ []) links.next ∙ sym (nexts_push nodes q r parent b last_is);
         distinct = distinct;
         held = held_more nodes q r u links.held parent stands;
-        small = small;
       }
 
   -- the links as they are read

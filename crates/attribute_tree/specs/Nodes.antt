@@ -1,5 +1,5 @@
 -- The tree of attributes: a node for each front of a path, numbered in the order in which they were made (after Trace Compass's attribute tree).
-use Rattle.std.specs.Prelude.{◌≡◌, ℕ, zero, suc, ◌<◌, Bool, false, true, length, if◌then◌else◌, List, [], ◌∷◌, ◌++◌, Option, None, Some, slice_get, slice_set, map}
+use Rattle.std.specs.Prelude.{◌≡◌, ℕ, zero, suc, Bool, false, true, if◌then◌else◌, List, [], ◌∷◌, ◌++◌, Option, None, Some, slice_get, slice_set, map}
 use Rattle.std.specs.List.{list_any, AllByRecursion, IsDistinct}
 use Rattle.trace_types.specs.declared.path.Path.{Path as AttributePath}
 use Rattle.trace_types.specs.declared.path.Path.TheVariants as path
@@ -114,14 +114,13 @@ IsHeld nodes (Some r) = list_any (same_prefix r) nodes ≡ true
 abbrev pub AreHeld : List Prefix → Type 0
 AreHeld nodes = AllByRecursion (λ p. IsHeld nodes (parent_of p)) nodes
 
--- the links are those of the nodes, which differ from one another and have numbers of 32 bits
+-- the links are those of the nodes, which differ from one another
 pub record AreLinked (nodes : List Prefix) (f l n : List (Option ℕ)) : Type 0 where
   pub first : f ≡ firsts nodes
   pub last : l ≡ lasts nodes
   pub next : n ≡ nexts 0 nodes
   pub distinct : IsDistinct same_prefix nodes
   pub held : AreHeld nodes
-  pub small : length nodes < 4294967296
 
 -- the nodes that are kept: none before the first path, and then those of the paths
 abbrev pub kept_nodes : List AttributePath → List Prefix

@@ -13,7 +13,7 @@ use std::marker::Model;
 use trace_types::{OutOfMemory, Path};
 
 // A path has a node for each of its four segments, and the first path makes the root, too.
-const NODES_A_PATH: u32 = 5;
+const NODES_A_PATH: usize = 5;
 
 /// Paths that are numbered from 0 in the order in which they were added, and the tree of their
 /// nodes. Contracts see the list of paths, and whether there is room for one more.
@@ -24,16 +24,16 @@ pub struct Attributes {
 }
 
 impl Model for Attributes {
-    ghost use Rattle.std.specs.Prelude.{◌≡◌, ℕ, ◌<◌, ◌^◌, ◌&&◌, nat_lt, nat_le, length};
+    ghost use Rattle.std.specs.Prelude.{◌≡◌, ◌&&◌, nat_lt, nat_le};
     ghost use Rattle.indexmap.specs.IndexSet.{spare};
     ghost use Rattle.attribute_tree.specs.Numbered.{Numbered};
     ghost use Rattle.attribute_tree.specs.Nodes.{kept_nodes};
 
     ghost Value = { Numbered };
 
-    ghost view = { λ a. record { paths = a.paths.keys; has_room = nat_lt 0 (spare a.paths) && (nat_lt (length a.paths.keys) 4294967295 && nat_le 5 a.nodes.room) } };
+    ghost view = { λ a. record { paths = a.paths.keys; has_room = nat_lt 0 (spare a.paths) && nat_le 5 a.nodes.room } };
 
-    ghost invariant = { λ a. (length a.paths.keys < 2 ^ 32) × (a.nodes.nodes ≡ kept_nodes a.paths.keys) };
+    ghost invariant = { λ a. a.nodes.nodes ≡ kept_nodes a.paths.keys };
 }
 
 impl Attributes {
@@ -47,14 +47,12 @@ impl Attributes {
         }
     }
 
-    /// Makes room for one more path. Numbers have 32 bits.
+    /// Makes room for one more path. The only error is want of memory.
     pub fn reserve(&mut self) -> Result<(), OutOfMemory>
         ensures paths { self.new.paths ≡ self.old.paths }
         ensures room { OnOk result (self.new.has_room ≡ true) }
+        ensures succeeds { self.old.has_room ≡ true → IsOk result }
     {
-        if self.paths.len() >= u32::MAX as usize {
-            return Err(OutOfMemory);
-        }
         self.nodes.reserve(NODES_A_PATH)?;
         self.paths.reserve(1)?;
         Ok(())
@@ -62,35 +60,32 @@ impl Attributes {
 
     /// Gives a new path the next number, which is the number of paths held before. At want of
     /// memory nothing has changed.
-    pub fn add(&mut self, path: Path) -> Result<u32, OutOfMemory>
+    pub fn add(&mut self, path: Path) -> Result<usize, OutOfMemory>
         requires { IsNew self.old.paths path }
         ensures number { IfOk result (λ n. n ≡ length self.old.paths) }
         ensures paths { OnOk result (self.new.paths ≡ self.old.paths ++ path ∷ []) }
         ensures err { OnErr result (self.new.paths ≡ self.old.paths) }
         ensures succeeds { self.old.has_room ≡ true → IsOk result }
     {
-        if self.paths.len() >= u32::MAX as usize {
-            return Err(OutOfMemory);
-        }
         self.nodes.reserve(NODES_A_PATH)?;
         let (number, _) = self.paths.insert_full(path)?;
         add_nodes(&mut self.nodes, path);
-        Ok(number as u32)
+        Ok(number)
     }
 
     /// The number of a path that is held. It takes no memory.
-    pub fn find(&self, path: Path) -> Option<u32>
+    pub fn find(&self, path: Path) -> Option<usize>
         ensures number { result ≡ number_among self.now.paths path }
         ensures found { IfSome result (λ n. slice_get self.now.paths n ≡ Some path) }
     {
-        Some(self.paths.get_index_of(&path)? as u32)
+        self.paths.get_index_of(&path)
     }
 
     /// How many paths are held.
-    pub fn len(&self) -> u32
+    pub fn len(&self) -> usize
         ensures { result ≡ length self.now.paths }
     {
-        self.paths.len() as u32
+        self.paths.len()
     }
 
     /// Whether no path is held.
@@ -101,17 +96,17 @@ impl Attributes {
     }
 
     /// The path of a number.
-    pub fn path_of(&self, number: u32) -> Path
+    pub fn path_of(&self, number: usize) -> Path
         requires { number < length self.now.paths }
         ensures { slice_get self.now.paths number ≡ Some result }
     {
-        self.paths[number as usize]
+        self.paths[number]
     }
 
     /// The children of a node, in the order of their making. Node 0 is the root, which is there
     /// without a path; then come the nodes that each path made, the shortest first. A number that is
     /// no node's has no children. It takes no memory.
-    pub fn children(&self, node: u32) -> Children<'_>
+    pub fn children(&self, node: usize) -> Children<'_>
         ensures { result ≡ children_of (nodes_of self.now.paths) node }
     {
         Children::new(&self.nodes, node)

@@ -9,7 +9,7 @@ use std::marker::Model;
 #[derive(Debug, Drop)]
 pub struct Children<'a> {
     nodes: &'a Nodes,
-    next: Option<u32>,
+    next: Option<usize>,
 }
 
 impl<'a> Model for Children<'a> {
@@ -23,7 +23,7 @@ impl<'a> Model for Children<'a> {
 
 impl<'a> Children<'a> {
     /// The children of a node, in the order of their making. It takes no memory.
-    pub fn new(nodes: &'a Nodes, node: u32) -> Children<'a>
+    pub fn new(nodes: &'a Nodes, node: usize) -> Children<'a>
         ensures { result ≡ children_of nodes.now.nodes node }
     {
         Children {
@@ -33,7 +33,7 @@ impl<'a> Children<'a> {
     }
 
     /// The next child, and `None` once all were given. It takes no memory.
-    pub fn next(&mut self) -> Option<u32>
+    pub fn next(&mut self) -> Option<usize>
         ensures child { self.old ≡ option_to_list result ++ self.new }
         ensures none { IfNone result (self.old ≡ []) }
     {

@@ -15,19 +15,19 @@ use trace_types::OutOfMemory;
 #[derive(Debug, Drop)]
 pub struct Nodes {
     prefixes: IndexSet<Prefix>,
-    first_child: Vec<Option<u32>>,
-    last_child: Vec<Option<u32>>,
-    next_sibling: Vec<Option<u32>>,
+    first_child: Vec<Option<usize>>,
+    last_child: Vec<Option<usize>>,
+    next_sibling: Vec<Option<usize>>,
 }
 
 impl Model for Nodes {
-    ghost use Rattle.std.specs.Prelude.{◌-◌, min, vec_len, vec_capacity, length};
+    ghost use Rattle.std.specs.Prelude.{◌-◌, min, vec_len, vec_capacity};
     ghost use Rattle.indexmap.specs.IndexSet.{spare};
     ghost use Rattle.attribute_tree.specs.Nodes.{Tree, AreLinked};
 
     ghost Value = { Tree };
 
-    ghost view = { λ n. record { nodes = n.prefixes.keys; room = min (spare n.prefixes) (min (vec_capacity n.first_child - vec_len n.first_child) (min (vec_capacity n.last_child - vec_len n.last_child) (min (vec_capacity n.next_sibling - vec_len n.next_sibling) (4294967295 - length n.prefixes.keys)))) } };
+    ghost view = { λ n. record { nodes = n.prefixes.keys; room = min (spare n.prefixes) (min (vec_capacity n.first_child - vec_len n.first_child) (min (vec_capacity n.last_child - vec_len n.last_child) (vec_capacity n.next_sibling - vec_len n.next_sibling))) } };
 
     ghost invariant = { λ n. AreLinked n.prefixes.keys n.first_child.items n.last_child.items n.next_sibling.items };
 }
@@ -45,19 +45,16 @@ impl Nodes {
         }
     }
 
-    /// Makes room for so many more nodes. Numbers have 32 bits.
-    pub fn reserve(&mut self, more: u32) -> Result<(), OutOfMemory>
+    /// Makes room for so many more nodes. The only error is want of memory.
+    pub fn reserve(&mut self, more: usize) -> Result<(), OutOfMemory>
         ensures nodes { self.new.nodes ≡ self.old.nodes }
         ensures room { OnOk result (more ≤ self.new.room) }
         ensures succeeds { more ≤ self.old.room → IsOk result }
     {
-        if self.prefixes.len() as u64 + u64::from(more) > u64::from(u32::MAX) {
-            return Err(OutOfMemory);
-        }
-        self.prefixes.reserve(more as usize)?;
-        self.first_child.reserve(more as usize)?;
-        self.last_child.reserve(more as usize)?;
-        self.next_sibling.reserve(more as usize)?;
+        self.prefixes.reserve(more)?;
+        self.first_child.reserve(more)?;
+        self.last_child.reserve(more)?;
+        self.next_sibling.reserve(more)?;
         Ok(())
     }
 
@@ -83,7 +80,7 @@ impl Nodes {
 
     /// The number of a front, which gets the next one where it has no node yet. There is room, and
     /// the parent has this number.
-    pub fn add(&mut self, parent: u32, prefix: Prefix) -> u32
+    pub fn add(&mut self, parent: usize, prefix: Prefix) -> usize
         requires parent { (r : Prefix) × (parent_of prefix ≡ Some r) × (slice_get self.old.nodes parent ≡ Some r) }
         requires room { 0 < self.old.room }
         ensures nodes { self.new.nodes ≡ with_node self.old.nodes prefix }
@@ -91,11 +88,11 @@ impl Nodes {
         ensures room { self.old.room ≤ self.new.room + 1 }
     {
         if let Some(node) = self.prefixes.get_index_of(&prefix) {
-            return node as u32;
+            return node;
         }
-        let node = self.prefixes.len() as u32;
+        let node = self.prefixes.len();
         self.prefixes.insert(prefix).unwrap();
-        let last = self.last_child[parent as usize];
+        let last = self.last_child[parent];
         link_next(&mut self.next_sibling, last, node);
         link_first(&mut self.first_child, parent, node);
         link_last(&mut self.last_child, parent, node);
@@ -103,53 +100,53 @@ impl Nodes {
     }
 
     /// The first child of a node.
-    pub fn first_child(&self, node: u32) -> Option<u32>
+    pub fn first_child(&self, node: usize) -> Option<usize>
         ensures { result ≡ first_of (children_of self.now.nodes node) }
     {
-        if node as usize >= self.first_child.len() {
+        if node >= self.first_child.len() {
             return None;
         }
-        self.first_child[node as usize]
+        self.first_child[node]
     }
 
     /// The next sibling of a node.
-    pub fn next_sibling(&self, node: u32) -> Option<u32>
+    pub fn next_sibling(&self, node: usize) -> Option<usize>
         ensures { result ≡ first_of (siblings_at 0 node self.now.nodes) }
     {
-        if node as usize >= self.next_sibling.len() {
+        if node >= self.next_sibling.len() {
             return None;
         }
-        self.next_sibling[node as usize]
+        self.next_sibling[node]
     }
 }
 
 // The parent's first child so far stays, and the new node has none.
-fn link_first(first: &mut Vec<Option<u32>>, parent: u32, node: u32)
+fn link_first(first: &mut Vec<Option<usize>>, parent: usize, node: usize)
     requires parent { parent < length first.old.items }
     requires room { vec_len first.old < vec_capacity first.old }
     ensures items { first.new.items ≡ slice_set first.old.items parent (Some (unwrap_or (get_or first.old.items parent None) node)) ++ None ∷ [] }
     ensures room { vec_capacity first.old ≤ vec_capacity first.new }
     ensures len { vec_len first.new ≡ vec_len first.old + 1 }
 {
-    let child = first[parent as usize].unwrap_or(node);
-    first[parent as usize] = Some(child);
+    let child = first[parent].unwrap_or(node);
+    first[parent] = Some(child);
     first.push_reserved(None);
 }
 
 // The new node is the parent's last child.
-fn link_last(last: &mut Vec<Option<u32>>, parent: u32, node: u32)
+fn link_last(last: &mut Vec<Option<usize>>, parent: usize, node: usize)
     requires parent { parent < length last.old.items }
     requires room { vec_len last.old < vec_capacity last.old }
     ensures items { last.new.items ≡ slice_set last.old.items parent (Some node) ++ None ∷ [] }
     ensures room { vec_capacity last.old ≤ vec_capacity last.new }
     ensures len { vec_len last.new ≡ vec_len last.old + 1 }
 {
-    last[parent as usize] = Some(node);
+    last[parent] = Some(node);
     last.push_reserved(None);
 }
 
 // The last child so far is followed by the new one.
-fn link_next(next: &mut Vec<Option<u32>>, last: Option<u32>, node: u32)
+fn link_next(next: &mut Vec<Option<usize>>, last: Option<usize>, node: usize)
     requires last { IfSome last (λ l. l < length next.old.items) }
     requires room { vec_len next.old < vec_capacity next.old }
     ensures items { next.new.items ≡ with_next next.old.items last node ++ None ∷ [] }
@@ -157,7 +154,7 @@ fn link_next(next: &mut Vec<Option<u32>>, last: Option<u32>, node: u32)
     ensures len { vec_len next.new ≡ vec_len next.old + 1 }
 {
     if let Some(last) = last {
-        next[last as usize] = Some(node);
+        next[last] = Some(node);
     }
     next.push_reserved(None);
 }

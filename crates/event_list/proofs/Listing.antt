@@ -1,5 +1,5 @@
 -- What stands when some lines of a list were read, with the numbers of their names.
-use Rattle.std.proofs.Common.{◌≡◌, ℕ, ◌+◌, ◌<◌, ◌≤◌, List, [], ◌∷◌, ◌++◌, length, take, get_or, refl, sym, ap, ap₂, ◌∙◌, subst, arith, length-append, replicate}
+use Rattle.std.proofs.Common.{◌≡◌, ℕ, ◌+◌, ◌^◌, ◌<◌, ◌≤◌, List, [], ◌∷◌, ◌++◌, length, take, get_or, refl, sym, ap, ap₂, ◌∙◌, subst, arith, length-append, replicate}
 use Rattle.std.specs.Prelude.{◌==◌, flat_map}
 use Rattle.trace_types.specs.declared.event.Merged.{Merged}
 use Rattle.std.specs.List.{AllByRecursion, slice_split}
@@ -14,7 +14,7 @@ use Rattle.event_list.specs.Numbering.{Adds, IsNumbered}
 use Rattle.event_list.specs.Order.{host_count}
 use Rattle.event_list.proofs.Spelling.{NoEnd}
 use Rattle.event_list.proofs.Reading.{Begins, HasRead, all_crowded, crowded, more_read, nothing_read, stuck, stuck_there}
-use Rattle.event_list.proofs.Numbered.{again, by_names, by_same, few_hosts, hosts_below, more_numbered}
+use Rattle.event_list.proofs.Numbered.{again, by_names, by_same, few_hosts, few_names, hosts_below, more_numbered}
 
 pub record Reads (text : List ℕ) (read : Numbering) (least : ℕ) (rest : List ℕ) : Type 0 where
   pub tolds : List Told
@@ -52,6 +52,10 @@ pub all_too_many : (text : List ℕ) (read : Numbering) (least : ℕ) (rest line
 all_too_many text read least rest line after words t r e ends w is rises full =
     all_crowded text (r.tolds ++ t ∷ []) t.event.key after (more_read text r.tolds least rest line after words t r.has e ends w is rises) (omega (arith, full, size r.tolds read r.numbered, length-append r.tolds (t ∷ [])))
 
+-- the names so far can be numbered
+pub names_few : (text : List ℕ) (read : Numbering) (least : ℕ) (rest : List ℕ) (host : ℕ) → Reads text read least rest → host < 64 → length (names_at read.tables.items host) < 2 ^ 32
+names_few text read least rest host r low = omega (arith, r.few, size r.tolds read r.numbered, ap length (r.numbered.names host low), few_names host r.tolds)
+
 -- no line follows
 pub no_line : (text : List ℕ) (read : Numbering) (least : ℕ) (rest : List ℕ) → Reads text read least rest → 0 < length rest → ((n : Told) → ¬ (Begins least rest n)) → (others : List Told) → ¬ (AreLines 0 others text)
 no_line text read least rest r some none = stuck text r.tolds least rest r.has some none
@@ -80,6 +84,11 @@ is_trace text tolds read trace lines n events names =
       hosts = ap length names ∙ (length-take-le (host_count read.events.items) read.tables.items enough.1 ∙ ap host_count (sym events));
       names = λ h below. let here : h < host_count read.events.items = subst (λ l. h < host_count l) events below in ap (λ l. get_or l h []) names ∙ (get_or-take (host_count read.events.items) read.tables.items h [] here ∙ n.names h (omega (arith, here, low)));
     }
+
+pub names_of_few : (text : List ℕ) (tolds : List Told) (read : Numbering) (lists : List (List (List ℕ))) → AreLines 0 tolds text → IsNumbered tolds read → lists ≡ take (host_count read.events.items) read.tables.items → length lists ≤ 64
+names_of_few text tolds read lists lines n names =
+    let enough = tables_enough text tolds read lines n in
+    omega (arith, few_hosts read.events.items enough.0, ap length names, length-take-le (host_count read.events.items) read.tables.items enough.1)
 
 -- events are spelled alike where their hosts' names are alike
 lines_same : (f g : ℕ → List (List ℕ)) (count : ℕ) (ms : List Merged) → host_count ms ≤ count → ((h : ℕ) → h < count → f h ≡ g h) → flat_map (λ m. line_text (f m.event.host) m) ms ≡ flat_map (λ m. line_text (g m.event.host) m) ms

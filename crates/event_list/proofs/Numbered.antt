@@ -1,11 +1,11 @@
 -- The numbers of names stay, whatever names come behind.
-use Rattle.std.proofs.Common.{◌≡◌, ◌≢◌, inl, inr, ℕ, suc, ◌+◌, ◌<◌, ◌≤◌, Bool, true, false, true≢false, cond, if◌then◌else◌, List, [], ◌∷◌, ◌++◌, map, refl, sym, ap, ap₂, ◌∙◌, subst, arith}
+use Rattle.std.proofs.Common.{◌≡◌, ◌≢◌, inl, inr, ℕ, suc, ◌+◌, ◌<◌, ◌≤◌, Bool, true, false, true≢false, cond, if◌then◌else◌, List, [], ◌∷◌, ◌++◌, length, map, refl, sym, ap, ap₂, ◌∙◌, subst, arith}
 use Rattle.std.specs.Fmt.{decimal}
 use Rattle.std.specs.Prelude.{not, ◌==◌, ◌&&◌, ◌||◌, flat_map, fold}
 use Rattle.std.specs.List.{AllByRecursion, list_any, position_or_len, join_with_byte}
 use Rattle.std.specs.Cmp.Lexicographic.{bytes_decides}
 use Rattle.std.proofs.lemmas.Bool.Decides.{eqb_tells}
-use Rattle.std.proofs.lemmas.List.{map-append}
+use Rattle.std.proofs.lemmas.List.{length-append, map-append}
 use Rattle.std.proofs.lemmas.List.Sums.{fold-append}
 use Rattle.indexmap.specs.IndexSet.{insert_key}
 use Rattle.trace_types.specs.declared.event.Merged.{Merged}
@@ -229,3 +229,27 @@ few_hosts (m ∷ ms) h = omega (arith, h.0, few_hosts ms h.1)
 pub still_rise : (names : ℕ → Names) (k : ℕ) (ts : List Told) → RiseFrom k (events_of ts) → RiseFrom k (map (by_names names) ts)
 still_rise names k [] h = tt
 still_rise names k (t ∷ ts) h = (h.0, still_rise names t.event.key ts h.1)
+
+-- ---- a host has at most as many names as there are lines
+
+few_more : (ks : Names) (k : List ℕ) → length (insert_key same_name ks k) ≤ length ks + 1
+few_more ks k = by (list_any (same_name k) ks)
+  where
+    by : (b : Bool) → length (if b then ks else ks ++ k ∷ []) ≤ length ks + 1
+    by true = omega arith
+    by false = omega (arith, length-append ks (k ∷ []))
+
+few_kept : (ks names : Names) → length (fold (insert_key same_name) ks names) ≤ length ks + length names
+few_kept ks [] = omega arith
+few_kept ks (k ∷ names) = omega (arith, few_more ks k, few_kept (insert_key same_name ks k) names)
+
+few_told : (h : ℕ) (ts : List Told) → length (names_told h ts) ≤ length ts
+few_told h [] = omega arith
+few_told h (t ∷ ts) = by ((t.event.event.host == h) && carries_name t.event.event.kind) (few_told h ts)
+  where
+    by : (b : Bool) → length (names_told h ts) ≤ length ts → length (if b then t.name ∷ names_told h ts else names_told h ts) ≤ suc (length ts)
+    by true few = omega (arith, few)
+    by false few = omega (arith, few)
+
+pub few_names : (h : ℕ) (ts : List Told) → length (names_of h ts) ≤ length ts
+few_names h ts = omega (arith, few_kept [] (names_told h ts), few_told h ts)

@@ -9,6 +9,7 @@ mod line;
 mod list;
 mod name_word;
 mod names;
+mod narrow;
 mod numbering;
 mod one;
 mod place;

@@ -56,6 +56,7 @@ pub fn read_list(alloc: Global, bytes: &[u8]) -> Result<MergedTrace, ListError>
     ensures list { IfOk result (λ trace. (tolds : List Told) × IsEventList bytes.now tolds × IsTrace tolds trace) }
     ensures few { IfOk result (λ trace. length trace.events.items ≤ MAX_EVENTS) }
     ensures hosts { IfOk result (λ trace. AllByRecursion (λ m. m.event.host < length trace.names.items) trace.events.items) }
+    ensures few_hosts { IfOk result (λ trace. length trace.names.items ≤ 64) }
     ensures again { IfOk result (λ trace. bytes.now ≡ lines_of (names_at trace.names.items) trace.events.items) }
     ensures bad { (line : ℕ) → result ≡ Err (BadLine line) → (tolds : List Told) → ¬ (IsEventList bytes.now tolds) }
     ensures line { (line : ℕ) → result ≡ Err (BadLine line) → IsFirstBad bytes.now line }

@@ -1,9 +1,10 @@
 //! The names of a host, with the places in which they first appeared.
-ghost use Rattle.std.specs.Prelude.{◌≡◌, [], IfOk, OnOk};
+ghost use Rattle.std.specs.Prelude.{◌≡◌, ◌<◌, ◌^◌, [], IfOk, OnOk, length};
 ghost use Rattle.std.specs.List.{position_or_len};
 ghost use Rattle.indexmap.specs.IndexSet.{insert_key};
 ghost use Rattle.event_list.specs.Names.{same_name};
 
+use crate::narrow::narrow;
 use indexmap::IndexSet;
 use std::alloc::Global;
 use std::marker::Model;
@@ -33,13 +34,14 @@ impl NameTable {
         }
     }
 
-    /// The place of a name, which goes last where it isn't there.
+    /// The place of a name, which goes last where it isn't there. The only error is want of memory.
     pub fn number(&mut self, name: Text) -> Result<u32, OutOfMemory>
+        requires { length self.old < 2 ^ 32 }
         ensures number { IfOk result (λ n. n ≡ position_or_len (same_name name) self.old) }
         ensures names { OnOk result (self.new ≡ insert_key same_name self.old name) }
     {
         let (number, _) = self.names.insert_full(name)?;
-        u32::try_from(number).map_err(|_| OutOfMemory)
+        Ok(narrow(number))
     }
 
     /// The names, in order.

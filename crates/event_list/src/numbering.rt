@@ -1,5 +1,5 @@
 //! Events that are read one by one, with the numbers of their names.
-ghost use Rattle.std.specs.Prelude.{◌≡◌, ◌<◌, [], IfOk, OnOk, length, replicate, set, if◌then◌else◌};
+ghost use Rattle.std.specs.Prelude.{◌≡◌, ◌<◌, ◌^◌, [], IfOk, OnOk, length, replicate, set, if◌then◌else◌};
 ghost use Rattle.std.specs.List.{position_or_len};
 ghost use Rattle.indexmap.specs.IndexSet.{insert_key};
 ghost use Rattle.event_list.specs.Names.{carries_name, names_at, numbered_in, same_name, with_number};
@@ -34,10 +34,11 @@ impl Numbering {
         Ok(Numbering { events, tables })
     }
 
-    /// Adds the event of a line, with the number of its name.
+    /// Adds the event of a line, with the number of its name. The only error is want of memory.
     pub fn add(&mut self, told: Told) -> Result<(), OutOfMemory>
         requires tables { HasTables self.old }
         requires host { told.event.event.host < 64 }
+        requires names { length (names_at self.old.tables.items told.event.event.host) < 2 ^ 32 }
         ensures { OnOk result (Adds self.old told self.new) }
     {
         let event = number(&mut self.tables, told.event, told.name)?;
@@ -50,6 +51,7 @@ impl Numbering {
 fn number(tables: &mut Vec<NameTable>, event: Merged, name: Text) -> Result<Merged, OutOfMemory>
     requires tables { length tables.old.items ≡ 64 }
     requires host { event.event.host < 64 }
+    requires names { length (names_at tables.old.items event.event.host) < 2 ^ 32 }
     ensures event { IfOk result (λ m. m ≡ numbered_in (names_at tables.old.items event.event.host) (record { event = event; name = name })) }
     ensures tables { OnOk result (tables.new.items ≡ set tables.old.items event.event.host (if carries_name event.event.kind then insert_key same_name (names_at tables.old.items event.event.host) name else names_at tables.old.items event.event.host)) }
 {
@@ -76,6 +78,7 @@ fn number_kind(
     name: Text,
     table: &mut NameTable,
 ) -> Result<KernelEvent, OutOfMemory>
+    requires { length table.old < 2 ^ 32 }
     ensures kind { IfOk result (λ k. k ≡ with_number (position_or_len (same_name name) table.old) kind) }
     ensures table { OnOk result (table.new ≡ (if carries_name kind then insert_key same_name table.old name else table.old)) }
 {

@@ -1,9 +1,10 @@
 //! The events of a merge, host by host.
-ghost use Rattle.std.specs.Prelude.{◌≡◌, ◌<◌, ◌++◌, ◌∷◌, [], ℕ, List, IfOk, OnOk, length};
+ghost use Rattle.std.specs.Prelude.{◌≡◌, ◌<◌, ◌^◌, ◌++◌, ◌∷◌, [], ℕ, List, IfOk, OnOk, length};
 ghost use Rattle.std.specs.List.{AllByRecursion};
 ghost use Rattle.trace_types.specs.declared.event.Merged.{Merged};
 ghost use Rattle.event_list.specs.Splits.{AreHostsFrom, IsHostOf};
 
+use crate::narrow::narrow;
 use crate::trace::{MergedTrace, NameList, copy_names};
 use std::alloc::Global;
 use trace_types::{Event, HostEvents, Merged, OutOfMemory, Text};
@@ -11,7 +12,8 @@ use trace_types::{Event, HostEvents, Merged, OutOfMemory, Text};
 /// The events of each host in their order, with its names. There is a host for each list of names, with no packets
 /// and an empty hostname. The only error is want of memory.
 pub fn split_hosts(trace: &MergedTrace) -> Result<Vec<HostEvents>, OutOfMemory>
-    requires { AllByRecursion (λ m. m.event.host < length trace.now.names.items) trace.now.events.items }
+    requires hosts { AllByRecursion (λ m. m.event.host < length trace.now.names.items) trace.now.events.items }
+    requires few { length trace.now.names.items < 2 ^ 32 }
     ensures { IfOk result (λ hosts. AreHostsFrom trace.now.events.items 0 trace.now.names.items hosts.items) }
 {
     let alloc = *trace.events.allocator();
@@ -24,12 +26,12 @@ pub fn split_hosts(trace: &MergedTrace) -> Result<Vec<HostEvents>, OutOfMemory>
 
 // A host without events for each list of names.
 fn empty_hosts(alloc: Global, lists: &[NameList]) -> Result<Vec<HostEvents>, OutOfMemory>
+    requires { length lists.now < 2 ^ 32 }
     ensures { IfOk result (λ hosts. AreHostsFrom [] 0 lists.now hosts.items) }
 {
     let mut hosts = Vec::new(alloc);
     for (number, list) in lists.iter().enumerate() {
-        let host = u32::try_from(number).map_err(|_| OutOfMemory)?;
-        hosts.push(empty_host(alloc, host, list)?)?;
+        hosts.push(empty_host(alloc, narrow(number), list)?)?;
     }
     Ok(hosts)
 }

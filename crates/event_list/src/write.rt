@@ -1,5 +1,5 @@
 //! Writing one line of an event list.
-ghost use Rattle.std.specs.Prelude.{◌≡◌, ◌++◌, ◌∷◌, [], OnOk};
+ghost use Rattle.std.specs.Prelude.{◌≡◌, ◌++◌, ◌∷◌, [], OnErr, OnOk};
 ghost use Rattle.std.specs.Fmt.{decimal};
 ghost use Rattle.event_list.specs.Lines.{AreBytes, kind_words, line_text};
 ghost use Rattle.event_list.specs.Written.{texts_in};
@@ -14,9 +14,25 @@ use crate::write_fields::{
 use itoa::Buffer;
 use trace_types::{Event, KernelEvent, Merged, OutOfMemory, Text};
 
-/// Appends the line of an event. `names` are those of its host. The only error is want of memory.
-#[tactic(auto, using(crate::proofs::Spaced::line_is))]
+// Most lines are shorter, in bytes.
+const LINE: usize = 128;
+
+/// Appends the line of an event. `names` are those of its host. The only error is want of memory, after which nothing
+/// has changed.
 pub fn write_line(event: &Merged, names: &[Text], out: &mut Vec<u8>) -> Result<(), OutOfMemory>
+    ensures text { OnOk result (out.new.items ≡ out.old.items ++ line_text names.now event.now) }
+    ensures bytes { OnOk result (AllByRecursion AreBytes (texts_in names.now event.now.event.kind)) }
+    ensures err { OnErr result (out.new.items ≡ out.old.items) }
+{
+    let mut line = Vec::with_capacity(*out.allocator(), LINE)?;
+    write_words(event, names, &mut line)?;
+    out.extend_from_slice(&line)?;
+    Ok(())
+}
+
+// The same, where a front of the line may be left behind.
+#[tactic(auto, using(crate::proofs::Spaced::line_is))]
+fn write_words(event: &Merged, names: &[Text], out: &mut Vec<u8>) -> Result<(), OutOfMemory>
     ensures text { OnOk result (out.new.items ≡ out.old.items ++ line_text names.now event.now) }
     ensures bytes { OnOk result (AllByRecursion AreBytes (texts_in names.now event.now.event.kind)) }
 {

@@ -1,5 +1,5 @@
 -- Each step of a merge can follow those before it.
-use Rattle.std.proofs.Common.{◌≡◌, ℕ, suc, ◌+◌, ◌<◌, max, Bool, true, false, not, cond, if◌then◌else◌, nat_lt, List, [], ◌∷◌, ◌++◌, length, Some, is_some, refl, sym, ◌∙◌, subst, arith, append_assoc, append-nil, length-append}
+use Rattle.std.proofs.Common.{◌≡◌, ℕ, suc, ◌+◌, ◌-◌, ◌*◌, ◌^◌, ◌<◌, max, Bool, true, false, not, cond, if◌then◌else◌, nat_lt, List, [], ◌∷◌, ◌++◌, length, Some, is_some, refl, sym, ap, ◌∙◌, subst, arith, append_assoc, append-nil, length-append}
 use Rattle.std.specs.List.{AllByRecursion}
 use Rattle.std.specs.Map.{lookup, keys_of}
 use Rattle.std.proofs.lemmas.Bool.{ltb-true, ltb-false}
@@ -13,6 +13,7 @@ use Rattle.kernel_provider.specs.declared.step.Step.{Step}
 use Rattle.kernel_provider.specs.declared.step.Step.TheVariants.{Advance}
 use Rattle.kernel_provider.specs.Rules.{assignments}
 use Rattle.kernel_provider.specs.Steps.{Table, value_in, is_held, number_of, is_idle, assigned, all_assigned, assignment_steps, all_assignment_steps, advance, steps_from, steps_of}
+use Rattle.kernel_provider.proofs.Counts.{few_steps}
 use Rattle.kernel_provider.proofs.Keys.{held_keys, new_keys}
 use Rattle.history_core.specs.Agreement.{IsMerge}
 use Rattle.history_core.specs.Changes.{END, built_from}
@@ -92,3 +93,7 @@ pub next_follows : (merge : List Merged) → IsMerge merge → (given rest : Lis
 next_follows merge is given rest step same h stands =
     let follows = (steps_rest [] 0 given (step ∷ rest) (subst (AreSteps [] 0) same (steps_lawful merge is))).0 in
     subst (λ b. CanFollow h.paths b step) (sym stands.built) (subst (λ l. CanFollow l (built_from 0 given) step) (sym stands.paths) follows)
+
+-- before the next step of a merge there are fewer steps than can be counted
+pub next_few : (merge : List Merged) → length merge * 17 + 1 < 2 ^ 64 → (given rest : List Step) (step : Step) → steps_of merge ≡ given ++ step ∷ rest → (h : Kept) → Stands given h → h.count < 2 ^ 64 - 1
+next_few merge small given rest step same h stands = omega (arith, small, few_steps merge, ap length same, length-append given (step ∷ rest), stands.count)

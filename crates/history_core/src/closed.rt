@@ -8,7 +8,7 @@ use trace_types::{OutOfMemory, Value};
 /// A value that an attribute had from one instant to another, both included, in ns.
 #[derive(Clone, Copy, Debug, PartialEq, Eq)]
 pub struct Interval {
-    pub number: u32,
+    pub number: usize,
     pub start: u64,
     pub end: u64,
     pub value: Value,
@@ -19,7 +19,7 @@ impl Interval {
     ghost use Rattle.history_core.specs.Intervals.{holds};
 
     // Whether it is of this number and holds the instant.
-    fn holds(&self, number: u32, t: u64) -> bool
+    fn holds(&self, number: usize, t: u64) -> bool
         ensures { result ≡ holds number t self.now }
     {
         self.number == number && self.start <= t && t <= self.end
@@ -38,7 +38,7 @@ pub struct Since {
 pub fn change(
     closed: &mut Vec<Interval>,
     opened: &mut [Option<Since>],
-    number: u32,
+    number: usize,
     since: &Since,
 ) -> Result<(), OutOfMemory>
     requires { number < length opened.old }
@@ -46,15 +46,15 @@ pub fn change(
     ensures opened { OnOk result (opened.new ≡ slice_set opened.old number (Some since.now)) }
     ensures err { OnErr result ((closed.new.items ≡ closed.old.items) × (opened.new ≡ opened.old)) }
 {
-    close(closed, number, since.start, &opened[number as usize])?;
-    opened[number as usize] = Some(*since);
+    close(closed, number, since.start, &opened[number])?;
+    opened[number] = Some(*since);
     Ok(())
 }
 
 // Appends the interval that a change at t closes, if it closes one.
 fn close(
     closed: &mut Vec<Interval>,
-    number: u32,
+    number: usize,
     t: u64,
     before: &Option<Since>,
 ) -> Result<(), OutOfMemory>
@@ -76,7 +76,7 @@ fn close(
 }
 
 /// The value of a number at an instant, among closed intervals.
-pub fn value_held(closed: &[Interval], number: u32, t: u64) -> Value
+pub fn value_held(closed: &[Interval], number: usize, t: u64) -> Value
     ensures { result ≡ value_held closed.now number t }
 {
     for interval in closed {

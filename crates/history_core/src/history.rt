@@ -1,5 +1,5 @@
 //! The history of attribute values, built step by step.
-ghost use Rattle.std.specs.Prelude.{◌≡◌, ◌<◌, ◌≤◌, ◌++◌, ◌∷◌, [], List, length, IfOk, OnOk, OnErr};
+ghost use Rattle.std.specs.Prelude.{◌≡◌, ◌<◌, ◌≤◌, ◌-◌, ◌^◌, ◌++◌, ◌∷◌, [], List, length, IfOk, OnOk, OnErr};
 ghost use Rattle.kernel_provider.specs.declared.step.Step.{Step};
 ghost use Rattle.history_core.specs.Stands.{Stands, CanFollow};
 ghost use Rattle.history_core.specs.Answers.{answer_after};
@@ -55,15 +55,14 @@ impl History {
         })
     }
 
-    /// Takes a step that can follow those that were taken. At want of memory nothing has changed.
+    /// Takes a step that can follow those that were taken, which are fewer than 2^64 - 1. The only
+    /// error is want of memory, after which nothing has changed.
     pub fn apply(&mut self, step: Step) -> Result<(), OutOfMemory>
-        requires { CanFollow self.old.paths self.old.built step }
+        requires follows { CanFollow self.old.paths self.old.built step }
+        requires few { self.old.count < 2 ^ 64 - 1 }
         ensures stands { OnOk result ((steps : List Step) → Stands steps self.old → Stands (steps ++ step ∷ []) self.new) }
         ensures err { OnErr result (self.new ≡ self.old) }
     {
-        if self.count == u64::MAX {
-            return Err(OutOfMemory);
-        }
         take(
             &mut self.attributes,
             &mut self.closed,
@@ -135,11 +134,11 @@ fn take(
 }
 
 // The value of a number at an instant.
-fn value_at(closed: &[Interval], opened: &[Option<Since>], number: u32, t: u64) -> Value
+fn value_at(closed: &[Interval], opened: &[Option<Since>], number: usize, t: u64) -> Value
     requires { number < length opened.now }
     ensures { result ≡ value_in closed.now opened.now number t }
 {
-    match &opened[number as usize] {
+    match &opened[number] {
         Some(since) if since.start <= t => since.value,
         _ => value_held(closed, number, t),
     }

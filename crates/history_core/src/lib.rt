@@ -3,9 +3,11 @@
 
 mod closed;
 mod history;
+mod laws;
 mod question;
 mod whole;
 
 pub use history::History;
+pub use laws::answers_agree;
 pub use question::{Answer, Asked, Question};
 pub use whole::history_of;

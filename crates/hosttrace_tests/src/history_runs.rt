@@ -68,7 +68,7 @@ fn asked<R: AllocGlobal + Threads + Sync>(
 }
 
 // Adds a path, which must be new.
-fn add_new<R: Abort>(rt: &R, attributes: &mut Attributes, path: Path) -> Result<u32, Fail> {
+fn add_new<R: Abort>(rt: &R, attributes: &mut Attributes, path: Path) -> Result<usize, Fail> {
     let None = attributes.find(path) else {
         panic!(rt; "a new path");
     };
@@ -86,8 +86,8 @@ fn two_paths<R: AllocGlobal + Threads + Sync + Abort>(rt: &R) -> Result<Attribut
 // The children of a node of two paths, at most two of them.
 fn children<R: AllocGlobal + Threads + Sync + Abort>(
     rt: &R,
-    node: u32,
-) -> Result<[Option<u32>; 3], Fail> {
+    node: usize,
+) -> Result<[Option<usize>; 3], Fail> {
     let attributes = two_paths(rt)?;
     let mut children = attributes.children(node);
     Ok([children.next(), children.next(), children.next()])

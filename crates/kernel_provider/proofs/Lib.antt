@@ -2,3 +2,4 @@ pub mod Turns
 pub mod Tables
 pub mod Keys
 pub mod Replayed
+pub mod Counts

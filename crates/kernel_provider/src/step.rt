@@ -9,7 +9,7 @@ pub enum Step {
     /// A path gets the next number.
     Add(Path),
     /// The path of this number has another value from t on.
-    Change { t: u64, number: u32, value: Value },
+    Change { t: u64, number: usize, value: Value },
     /// No event is left.
     Finish,
 }

@@ -1,5 +1,5 @@
 //! The paths that were added, with their current values.
-ghost use Rattle.std.specs.Prelude.{◌≡◌, ◌<◌, [], true, false, length, OnOk, IfSome, IfNone};
+ghost use Rattle.std.specs.Prelude.{◌≡◌, ◌<◌, [], true, false, length, IsOk, OnOk, IfSome, IfNone};
 ghost use Rattle.kernel_provider.specs.Steps.{value_in, is_held, number_of, with_value};
 ghost use Rattle.trace_types.specs.declared.value.Value.TheVariants as values;
 
@@ -31,7 +31,7 @@ impl Model for Table {
 /// A path's number and its current value.
 #[derive(Clone, Copy, Debug, PartialEq, Eq)]
 pub struct Found {
-    pub number: u32,
+    pub number: usize,
     pub value: Value,
 }
 
@@ -50,6 +50,7 @@ impl Table {
     pub fn reserve(&mut self) -> Result<(), OutOfMemory>
         ensures same { self.new.table ≡ self.old.table }
         ensures room { OnOk result (self.new.has_room ≡ true) }
+        ensures succeeds { self.old.has_room ≡ true → IsOk result }
     {
         self.attributes.reserve()?;
         self.values.reserve(1)?;
@@ -63,7 +64,7 @@ impl Table {
         ensures none { IfNone result (is_held self.now.table path.now ≡ false) }
     {
         let number = self.attributes.find(*path)?;
-        let value = self.values[number as usize];
+        let value = self.values[number];
         Some(Found { number, value })
     }
 
@@ -88,11 +89,11 @@ impl Table {
     }
 
     /// Gives the path of this number another value.
-    pub fn set(&mut self, path: &Path, number: u32, value: Value)
+    pub fn set(&mut self, path: &Path, number: usize, value: Value)
         requires held { is_held self.old.table path.now ≡ true }
         requires number { number ≡ number_of self.old.table path.now }
         ensures { self.new.table ≡ with_value self.old.table path.now value }
     {
-        self.values[number as usize] = value;
+        self.values[number] = value;
     }
 }

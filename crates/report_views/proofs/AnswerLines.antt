@@ -2,6 +2,8 @@
 use Rattle.std.proofs.Common.{◌≡◌, ℕ, zero, suc, ◌+◌, ◌<◌, List, [], ◌∷◌, ◌++◌, length, take, get_or, sym, ap, ◌∙◌, append_assoc, append-nil, arith}
 use Rattle.std.specs.Prelude.{flat_map}
 use Rattle.std.specs.List.{AllByRecursion}
+use Rattle.history_core.specs.declared.question.Question.{Question}
+use Rattle.report_views.specs.Asked.{IsQuestion, IsTimely}
 
 module _ {A : Type 0} where
   pub all_at : (P : A → Type 0) (xs : List A) (i : ℕ) (d : A) → AllByRecursion P xs → i < length xs → P (get_or xs i d)
@@ -16,3 +18,8 @@ module _ {A : Type 0} where
 
   pub take_more : (f : A → List ℕ) (xs : List A) (i : ℕ) (d : A) → i < length xs → flat_map f (take (i + 1) xs) ≡ flat_map f (take i xs) ++ f (get_or xs i d)
   take_more f xs i d l = let next : i + 1 ≡ suc i = omega arith in ap (λ n. flat_map f (take n xs)) next ∙ take_suc f xs i d l
+
+-- the questions of a file ask for instants before the end of all times
+pub all_timely : (questions : List Question) → AllByRecursion IsQuestion questions → AllByRecursion IsTimely questions
+all_timely [] h = tt
+all_timely (q ∷ questions) h = (h.0.below, all_timely questions h.1)

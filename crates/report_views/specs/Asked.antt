@@ -7,3 +7,7 @@ use Rattle.history_core.specs.declared.question.Question.{Question}
 pub record IsQuestion (q : Question) : Type 0 where
   pub below : q.t < 2 ^ 62
   pub is_path : IsPath q.path
+
+-- an instant before the end of all times, below 2^62, in ns
+abbrev pub IsTimely : Question → Type 0
+IsTimely q = q.t < 2 ^ 62

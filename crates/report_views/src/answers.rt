@@ -5,7 +5,7 @@ ghost use Rattle.event_list.specs.Names.{names_at};
 ghost use Rattle.kernel_provider.specs.Replay.{state_at};
 ghost use Rattle.history_core.specs.Agreement.{IsMerge};
 ghost use Rattle.report_views.specs.AnswersText.{asked_text, answer_text};
-ghost use Rattle.report_views.specs.Asked.{IsQuestion};
+ghost use Rattle.report_views.specs.Asked.{IsTimely};
 
 use crate::value_text::write_value;
 use event_list::{MergedTrace, NameList};
@@ -14,14 +14,14 @@ use std::alloc::Global;
 use std::io::Write;
 use trace_types::OutOfMemory;
 
-/// The answers to questions, a line each, in their order. The only error is want of memory.
+/// The answers to questions about any path, a line each, in their order. The only error is want of memory.
 pub fn answers_text(
     alloc: Global,
     trace: &MergedTrace,
     questions: &[Question],
 ) -> Result<Vec<u8>, OutOfMemory>
     requires merge { IsMerge trace.now.events.items }
-    requires questions { AllByRecursion IsQuestion questions.now }
+    requires questions { AllByRecursion IsTimely questions.now }
     ensures { IfOk result (λ text. text.items ≡ flat_map (asked_text (names_at trace.now.names.items) (state_at trace.now.events.items)) questions.now) }
 {
     let history = history_of(alloc, &trace.events)?;

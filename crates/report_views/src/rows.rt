@@ -42,10 +42,10 @@ fn apply(rows: &mut Vec<Row>, at: u64, step: &Step) -> Result<(), OutOfMemory>
 }
 
 // Gives the row of a number another value.
-fn set_value(rows: &mut Vec<Row>, number: u32, value: Value)
+fn set_value(rows: &mut Vec<Row>, number: usize, value: Value)
     ensures { rows.new.items ≡ set_value rows.old.items number value }
 {
-    if let Some(row) = rows.get_mut(number as usize) {
+    if let Some(row) = rows.get_mut(number) {
         row.value = value;
     }
 }

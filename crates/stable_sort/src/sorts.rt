@@ -1,21 +1,23 @@
 //! Stable sorts of events.
-ghost use Rattle.std.specs.Prelude.{◌≡◌, OnOk};
+ghost use Rattle.std.specs.Prelude.{◌≡◌, OnErr, OnOk};
 ghost use Rattle.stable_sort.specs.Sorted.{sorted};
 
 use std::alloc::Global;
 use trace_types::{Event, Merged, OutOfMemory};
 
-/// Sorts events by their own times. Events of one time keep their order. After want of memory nothing has changed.
+/// Sorts events by their own times. Events of one time keep their order. The only error is want of memory.
 pub fn sort_by_time(alloc: Global, events: &mut [Event]) -> Result<(), OutOfMemory>
-    ensures { OnOk result (events.new ≡ sorted (λ e. e.time) events.old) }
+    ensures ok { OnOk result (events.new ≡ sorted (λ e. e.time) events.old) }
+    ensures err { OnErr result (events.new ≡ events.old) }
 {
     events.sort_by_key(alloc, |event: &Event| event.time)?;
     Ok(())
 }
 
-/// Sorts merged events by their keys. Events of one key keep their order. After want of memory nothing has changed.
+/// Sorts merged events by their keys. Events of one key keep their order. The only error is want of memory.
 pub fn sort_merged(alloc: Global, events: &mut [Merged]) -> Result<(), OutOfMemory>
-    ensures { OnOk result (events.new ≡ sorted (λ m. m.key) events.old) }
+    ensures ok { OnOk result (events.new ≡ sorted (λ m. m.key) events.old) }
+    ensures err { OnErr result (events.new ≡ events.old) }
 {
     events.sort_by_key(alloc, |merged: &Merged| merged.key)?;
     Ok(())

@@ -6,3 +6,4 @@ pub mod Cutting
 pub mod PathWords
 pub mod Everywhere
 pub mod PlainBytes
+pub mod Appending

@@ -6,3 +6,4 @@ pub mod Paths
 pub mod Same
 pub mod Order
 pub mod Limits
+pub mod Fronts

@@ -1,14 +1,17 @@
 //! Bytes as a word of a line: visible ASCII as it is, all else by percent signs.
-ghost use Rattle.std.specs.Prelude.{◌≡◌, ◌≢◌, ◌<◌, ◌≤◌, ◌++◌, ◌∷◌, ℕ, List, IfOk, IfSome, IfNone, OnOk, flat_map, length};
+ghost use Rattle.std.specs.Prelude.{◌≡◌, ◌≢◌, ◌<◌, ◌≤◌, ◌++◌, ◌∷◌, ℕ, List, IfOk, IfSome, IfNone, OnOk, OnErr, flat_map, length};
 ghost use Rattle.std.specs.List.{prefix_len};
+ghost use Rattle.trace_types.specs.Fronts.{HasFront};
 ghost use Rattle.trace_types.specs.ByteTexts.{IsByteText, SpellsBytes, byte_text, spelled, is_plain, hex_digit};
 
 use crate::{OutOfMemory, Text};
 use std::alloc::Global;
 
-/// Appends bytes as one word, which has no space and no line feed. The only error is want of memory.
+/// Appends bytes as one word, which has no space and no line feed. The only error is want of memory,
+/// after which a front of the word may stand there.
 pub fn write_byte_text(bytes: &[u8], out: &mut Vec<u8>) -> Result<(), OutOfMemory>
     ensures ok { OnOk result (out.new.items ≡ out.old.items ++ byte_text bytes.now) }
+    ensures err { OnErr result (HasFront out.old.items (byte_text bytes.now) out.new.items) }
 {
     if bytes.is_empty() {
         out.push(b'%')?;
@@ -19,6 +22,7 @@ pub fn write_byte_text(bytes: &[u8], out: &mut Vec<u8>) -> Result<(), OutOfMemor
 // The same, where those bytes before the first that doesn't stand for itself go as they are, in one piece.
 fn write_spelled(bytes: &[u8], out: &mut Vec<u8>) -> Result<(), OutOfMemory>
     ensures ok { OnOk result (out.new.items ≡ out.old.items ++ flat_map spelled bytes.now) }
+    ensures err { OnErr result (HasFront out.old.items (flat_map spelled bytes.now) out.new.items) }
 {
     let (plain, others) = bytes.split_at(plain_len(bytes));
     out.extend_from_slice(plain)?;
@@ -28,6 +32,7 @@ fn write_spelled(bytes: &[u8], out: &mut Vec<u8>) -> Result<(), OutOfMemory>
 // Appends the spelling of each byte.
 fn write_each(bytes: &[u8], out: &mut Vec<u8>) -> Result<(), OutOfMemory>
     ensures ok { OnOk result (out.new.items ≡ out.old.items ++ flat_map spelled bytes.now) }
+    ensures err { OnErr result (HasFront out.old.items (flat_map spelled bytes.now) out.new.items) }
 {
     for byte in bytes {
         write_byte(*byte, out)?;
@@ -45,6 +50,7 @@ fn plain_len(bytes: &[u8]) -> usize
 
 fn write_byte(byte: u8, out: &mut Vec<u8>) -> Result<(), OutOfMemory>
     ensures ok { OnOk result (out.new.items ≡ out.old.items ++ spelled byte) }
+    ensures err { OnErr result (out.new.items ≡ out.old.items) }
 {
     if is_plain(byte) {
         out.push(byte)?;

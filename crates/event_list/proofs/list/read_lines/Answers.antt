@@ -1,5 +1,5 @@
 use Rattle.std.proofs.Common.{arith, rules}
-use Rattle.event_list.proofs.Listing.{all_too_many, bad_there, begin, no_line, one_more, too_many}
+use Rattle.event_list.proofs.Listing.{all_too_many, bad_there, begin, names_few, no_line, one_more, too_many}
 use Rattle.event_list.proofs.Options.{at_none, at_some}
 use Rattle.event_list.proofs.Reading.{all_read, key_falls, no_end, no_event}
 use Rattle.event_list.proofs.list.read_lines.Goals as goal
@@ -36,6 +36,9 @@ add-requires-clause-tables c = c.loop-rest.invariant.numbered.tables
 
 pub add-requires-clause-host : goal.add-requires-clause-host
 add-requires-clause-host c = (at_some _ _ _ c.in-Some-2.is c.in_ok-told.ensures.found).is_told.host
+
+pub add-requires-clause-names : goal.add-requires-clause-names
+add-requires-clause-names c = names_few c.args.text.now c.loop-rest.read c.loop-rest.least c.loop-rest.rest.now c.in-Some-2.told.event.event.host c.loop-rest.invariant (at_some _ _ _ c.in-Some-2.is c.in_ok-told.ensures.found).is_told.host
 
 pub loop-rest-preserved : goal.loop-rest-preserved
 loop-rest-preserved c = one_more c.args.text.now c.loop-rest.read c.loop-rest.least c.loop-rest.rest.now c.in-Some.line.now c.in-Some.after.now _ c.in-Some-2.told _ c.loop-rest.invariant c.in-Some.ensures.found.0 c.in-Some.ensures.found.1 (rw c.deref-in-loop-rest.ensures.value c.in_ok-split_words.ensures.words) (at_some _ _ _ c.in-Some-2.is c.in_ok-told.ensures.found) c.if-told-least.false (grind arith) c.in_ok-add.ensures

@@ -1,5 +1,5 @@
 use Rattle.std.proofs.Common.{rules, inl, refl, ◌∙◌}
-use Rattle.event_list.proofs.Listing.{is_trace, tables_enough, written_again}
+use Rattle.event_list.proofs.Listing.{is_trace, names_of_few, tables_enough, written_again}
 use Rattle.event_list.proofs.Reading.{begins_so, other_first}
 use Rattle.event_list.proofs.Splitting.{have_names}
 use Rattle.event_list.proofs.list.read_list.Goals as goal
@@ -24,3 +24,6 @@ returns-clause-again c = begins_so c.args.bytes.now c.in-Some.first.now c.in-Som
 
 pub returns-clause-hosts : goal.returns-clause-hosts
 returns-clause-hosts c = have_names c.in_ok-events.ensures.lines.0 (record { events = c.in_ok-events.field-0.events; names = c.in_ok-names.names }) (is_trace c.in-Some.text.now c.in_ok-events.ensures.lines.0 c.in_ok-events.field-0 _ c.in_ok-events.ensures.lines.1 c.in_ok-events.ensures.lines.2 refl (rw c.in_ok-names.ensures (rw (c.host_count.ensures, c.deref.ensures.value, c.deref-2.ensures.value) refl)))
+
+pub returns-clause-few_hosts : goal.returns-clause-few_hosts
+returns-clause-few_hosts c = names_of_few c.in-Some.text.now c.in_ok-events.ensures.lines.0 c.in_ok-events.field-0 c.in_ok-names.names.items c.in_ok-events.ensures.lines.1 c.in_ok-events.ensures.lines.2 (rw c.in_ok-names.ensures (rw (c.host_count.ensures, c.deref.ensures.value, c.deref-2.ensures.value) refl))

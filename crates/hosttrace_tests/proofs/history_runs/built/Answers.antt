@@ -1,13 +1,19 @@
-use Rattle.std.proofs.Common.{◌≡◌, ◌∷◌, [], ◌++◌, sym, ap, ◌∙◌, append_assoc, rules}
+use Rattle.std.proofs.Common.{◌≡◌, ◌+◌, ◌*◌, ◌^◌, ◌<◌, ◌∷◌, [], ◌++◌, length, sym, ap, ◌∙◌, append_assoc, rules}
 use Rattle.kernel_provider.specs.Given.{left}
-use Rattle.history_core.proofs.Lawful.{next_follows}
+use Rattle.history_core.proofs.Lawful.{next_few, next_follows}
 use Rattle.hosttrace_tests.proofs.history_runs.built.Goals as goal
 
 pub apply-requires : goal.apply-requires
 apply-requires g c =
     let before = c.loop.invariant in
-    let more : left c.loop.provider c.args.events.now ≡ c.in-Some.step ∷ left c.next_step.new.self c.args.events.now = search rules in
-    next_follows c.args.events.now c.requires before.0 (left c.next_step.new.self c.args.events.now) c.in-Some.step (before.2 ∙ ap (λ l. before.0 ++ l) more) c.loop.history before.1
+    let rest = left c.next_step.new.self c.args.events.now in
+    let more : left c.loop.provider c.args.events.now ≡ c.in-Some.step ∷ rest = search rules in
+    let same = before.2 ∙ ap (λ l. before.0 ++ l) more in
+    let small : length c.args.events.now * 17 + 1 < 2 ^ 64 = search rules in
+    record {
+      follows = next_follows c.args.events.now c.requires before.0 rest c.in-Some.step same c.loop.history before.1;
+      few = next_few c.args.events.now small before.0 rest c.in-Some.step same c.loop.history before.1;
+    }
 
 pub loop-preserved : goal.loop-preserved
 loop-preserved g c =

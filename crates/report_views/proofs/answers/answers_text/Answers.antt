@@ -9,7 +9,7 @@ use Rattle.history_core.specs.declared.question.Answer.TheVariants.{State}
 use Rattle.history_core.specs.Agreement.{IsMerge}
 use Rattle.history_core.proofs.Agreement.{whole_agreement}
 use Rattle.report_views.specs.AnswersText.{asked_text, answer_text}
-use Rattle.report_views.specs.Asked.{IsQuestion}
+use Rattle.report_views.specs.Asked.{IsTimely}
 use Rattle.report_views.proofs.AnswerLines.{all_at, take_more}
 use Rattle.report_views.proofs.answers.answers_text.Goals as goal
 
@@ -20,10 +20,10 @@ loop-question-preserved c =
     let none : Question = record { t = 0; path = Cpu 0 0 Thread } in
     let q = get_or questions i none in
     let inside : i < length questions = search rules in
-    let is : IsQuestion q = all_at IsQuestion questions i none c.requires.questions inside in
+    let is : IsTimely q = all_at IsTimely questions i none c.requires.questions inside in
     let events = c.deref.result.now in
     let merge : IsMerge events = rw c.deref.ensures.value c.requires.merge in
-    let here : c.answer-answer.result ≡ State (state_at events q.t q.path) = c.answer-answer.ensures.stands (steps_of events) c.in_ok-history.ensures ∙ whole_agreement events merge q.t q.path is.below in
+    let here : c.answer-answer.result ≡ State (state_at events q.t q.path) = c.answer-answer.ensures.stands (steps_of events) c.in_ok-history.ensures ∙ whole_agreement events merge q.t q.path is in
     let answer : c.answer-answer.result ≡ State (state_at c.args.trace.now.events.items q.t q.path) = here ∙ ap (λ ms. State (state_at ms q.t q.path)) c.deref.ensures.value in
     c.in_ok-write_answer.ensures
     ∙ (ap (λ ns. c.loop-question.text.items ++ answer_text (names_at ns) q c.answer-answer.result) c.deref-in-loop-question.ensures.value

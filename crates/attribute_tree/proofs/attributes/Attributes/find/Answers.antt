@@ -1,6 +1,12 @@
-use Rattle.std.proofs.Common.{rules}
+use Rattle.std.proofs.Common.{◌≡◌, ℕ, List, Option, Some, None, IfSome, slice_get, sym, rules}
+use Rattle.trace_types.specs.declared.path.Path.{Path as AttributePath}
+use Rattle.attribute_tree.specs.Numbered.{number_among}
 use Rattle.attribute_tree.proofs.Numbers.{number_stands}
 use Rattle.attribute_tree.proofs.attributes.Attributes.find.Goals as goal
 
+stands : (paths : List AttributePath) (path : AttributePath) (o : Option ℕ) → o ≡ number_among paths path → IfSome o (λ n. slice_get paths n ≡ Some path)
+stands paths path None e = tt
+stands paths path (Some n) e = number_stands paths path n (sym e)
+
 pub returns-clause-found : goal.returns-clause-found
-returns-clause-found c = number_stands c.args.self.now.paths c.args.path c.in_ok-get_index_of.field-0 (search rules)
+returns-clause-found c = stands c.args.self.now.paths c.args.path c.get_index_of.result (search rules)

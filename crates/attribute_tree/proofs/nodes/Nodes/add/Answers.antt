@@ -1,7 +1,6 @@
-use Rattle.std.proofs.Common.{◌≡◌, ◌<◌, ◌∷◌, [], sym, ap, ◌∙◌, subst, refl, length, Some, None, false, slice_get, arith, rules}
+use Rattle.std.proofs.Common.{◌≡◌, ◌<◌, sym, ap, ◌∙◌, subst, refl, length, Some, None, false, slice_get, arith, rules}
 use Rattle.std.specs.List.{list_any, position}
 use Rattle.std.proofs.lemmas.Option.{slice_get_within, slice_get_read, slice_get-get_or}
-use Rattle.std.proofs.lemmas.List.{length-append}
 use Rattle.attribute_tree.specs.Nodes.{Tree, same_prefix, with_node}
 use Rattle.attribute_tree.proofs.Numbers.{position_stands}
 use Rattle.attribute_tree.proofs.Linked.{prefix_is, lengths, last_within, linked_push, if_some, at_end, with_new}
@@ -48,11 +47,10 @@ invariant_of-self c =
     let more : c.insert.new.self.keys ≡ with_node keys q = search rules in
     let pushed = more ∙ with_new keys q new in
     let node : c.len-node.result ≡ length keys = search rules in
-    let room = subst (λ (t : Tree). 0 < t.room) (sym c.self.view_is) c.requires.room in
     let inside : c.args.parent < length c.self.inside.last_child.items = omega (arith, within, (lengths keys c.self.invariant).1) in
     let first = slice_get-get_or c.self.inside.first_child.items c.args.parent None (omega (arith, within, (lengths keys c.self.invariant).0)) in
     let last = slice_get_read c.self.inside.last_child.items (length c.self.inside.last_child.items) c.args.parent c.index-last.result.now refl inside (search rules) in
-    let linked = linked_push keys c.self.invariant q c.requires.parent.0 c.args.parent _ c.index-last.result.now c.requires.parent.1 stands new (search rules) (omega (arith, room, length-append keys (q ∷ []))) first last in
+    let linked = linked_push keys c.self.invariant q c.requires.parent.0 c.args.parent _ c.index-last.result.now c.requires.parent.1 stands new (search rules) first last in
     rw (pushed, c.link_first.ensures.items, c.link_last.ensures.items, c.link_next.ensures.items, node) linked
 
 pub returns-clause-stands : goal.returns-clause-stands
