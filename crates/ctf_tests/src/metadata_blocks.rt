@@ -214,6 +214,51 @@ fn streams_and_events(rt: HostRuntime) -> Result<(), Fail> {
     )
 }
 
+// Two events of one pair of ids: the second is judged where the last of the two first stands.
+#[test]
+fn pairs_of_ids(rt: HostRuntime) -> Result<(), Fail> {
+    all_are_refused(
+        &rt,
+        &[
+            (
+                "stream { }; event { }; event { stream_id = 0; id = 0; stream_id = 0; };",
+                5,
+                MetaItemCause::DuplicateId,
+            ),
+            (
+                "stream { }; event { }; event { stream_id = 0; id = 0; name = 5; stream_id = 0; };",
+                5,
+                MetaItemCause::DuplicateId,
+            ),
+            (
+                "stream { }; event { }; event { stream_id = 0; id := string; };",
+                5,
+                MetaItemCause::BadAttribute,
+            ),
+            (
+                "stream { }; event { }; event { stream_id = 0; id = \"\"; };",
+                5,
+                MetaItemCause::BadAttribute,
+            ),
+            (
+                "stream { }; event { }; event { id = 0; stream_id := string; };",
+                5,
+                MetaItemCause::BadAttribute,
+            ),
+            (
+                "stream { }; event { }; event { id = 0; id = 0; };",
+                5,
+                MetaItemCause::DuplicateId,
+            ),
+            (
+                "stream { }; event { }; event { id = 0; name = 5; stream_id = 0; };",
+                5,
+                MetaItemCause::BadAttribute,
+            ),
+        ],
+    )
+}
+
 #[test]
 fn clocks_and_environments(rt: HostRuntime) -> Result<(), Fail> {
     all_are_typed(
@@ -223,6 +268,10 @@ fn clocks_and_environments(rt: HostRuntime) -> Result<(), Fail> {
             "clock { name = \"c\"; freq = 1; offset = -9223372036854775808; offset_s = 18446744073709551615; };",
             "clock { name = a.b; }; clock { name = c; };",
             "env { hostname = \"a\"; hostname = 5; x = 1; x = 2; }; env { hostname = word; };",
+            "env { hostname = \"\"; hostname := string; }; env { hostname := b; };",
+            "clock { name = a.b; }; typealias integer { size = 8; map = clock.a.b.value; } := d;",
+            "clock { name = \"a.b\"; }; typealias integer { size = 8; map = clock.a.b.value; } := d;",
+            "clock { name = value; }; typealias integer { size = 8; map = clock.value.value; } := d;",
             "callsite { id = 5; id = -5; name := word; };",
         ],
     )?;
@@ -270,6 +319,31 @@ fn clocks_and_environments(rt: HostRuntime) -> Result<(), Fail> {
                 "typealias integer { size = 8; map = clock.c.value; } := d; clock { name = c; };",
                 3,
                 MetaItemCause::BadReference,
+            ),
+            (
+                "clock { name = a.b; }; typealias integer { size = 8; map = clock.a.value; } := d;",
+                4,
+                MetaItemCause::BadReference,
+            ),
+            (
+                "clock { name = \"\"; }; typealias integer { size = 8; map = clock.value; } := d;",
+                4,
+                MetaItemCause::BadReference,
+            ),
+            (
+                "clock { name = a.b; }; typealias integer { size = 8; map = clock.a.b; } := d;",
+                4,
+                MetaItemCause::BadReference,
+            ),
+            (
+                "env { hostname = \"\"; hostname := word; };",
+                3,
+                MetaItemCause::UnknownType,
+            ),
+            (
+                "env { hostname := string; hostname = \"\"; };",
+                3,
+                MetaItemCause::BadAttribute,
             ),
             ("env { hostname = 5; };", 3, MetaItemCause::BadAttribute),
             ("env { hostname = word; };", 3, MetaItemCause::BadAttribute),
@@ -338,6 +412,31 @@ fn ways_by_scopes(rt: HostRuntime) -> Result<(), Fail> {
                 MetaItemCause::BadReference,
             ),
             (
+                "variant v { }; stream { event.header := variant v <n>; };",
+                4,
+                MetaItemCause::BadReference,
+            ),
+            (
+                "stream { event.header := variant <n> { }; };",
+                3,
+                MetaItemCause::BadReference,
+            ),
+            (
+                "stream { event.header := variant { }; };",
+                3,
+                MetaItemCause::BadAttribute,
+            ),
+            (
+                "stream { }; event { fields := variant { b n; struct { b a[event.fields.n]; } s; }; };",
+                4,
+                MetaItemCause::BadReference,
+            ),
+            (
+                "stream { }; event { fields := variant { struct { b n; b a[event.fields.s.n]; } s; }; };",
+                4,
+                MetaItemCause::BadReference,
+            ),
+            (
                 "stream { event.header := struct { b x[stream.packet.context.n]; }; id = -1; };",
                 3,
                 MetaItemCause::BadReference,
@@ -348,6 +447,88 @@ fn ways_by_scopes(rt: HostRuntime) -> Result<(), Fail> {
         "trace { packet.header := struct { integer { size = 8; } n; }; byte_order = be; uuid = \"2a6422d0-6cee-11e0-8c08-cb07d7b3a564\"; major = 1; minor = 8; }; stream { packet.context := struct { integer { size = 8; } x[trace.packet.header.n]; }; };";
     assert!(rt; refused(&rt, header.as_bytes())?.is_none());
     Ok(())
+}
+
+// A way that leads nowhere in the text further on breaks the rule where it stands.
+#[test]
+fn ways_further_on(rt: HostRuntime) -> Result<(), Fail> {
+    all_are_typed(
+        &rt,
+        &[
+            "stream { }; event { fields := struct { b x[event.context.h.n]; }; context := struct { struct { b n; } h; }; };",
+            "stream { }; event { fields := struct { variant <event.context.t> { b A; } v; }; context := struct { enum : b { A } t; }; };",
+            "stream { }; event { fields := struct { b x[event.context._n]; }; context := struct { string n; b n; }; };",
+            "struct h { b n; }; stream { }; event { fields := struct { b x[event.context.h.n]; }; context := struct { struct h h; }; };",
+            "stream { }; event { fields := struct { b x[event.context.h.n]; }; other := struct h { b n; }; context := struct { struct h h; }; };",
+            "struct h { b n; }; stream { }; event { fields := struct { b x[event.context.n]; }; context := struct h; };",
+            "stream { }; event { context := struct { b n; }; fields := struct { struct s { b x[event.context.n]; } y; }; }; event { id = 1; fields := struct { struct s y; }; context := struct { b n; }; };",
+        ],
+    )?;
+    all_are_refused(
+        &rt,
+        &[
+            (
+                "stream { }; event { fields := struct { b a[event.context.m]; }; context := struct { }; id = \"\"; };",
+                4,
+                MetaItemCause::BadReference,
+            ),
+            (
+                "stream { }; event { }; event { fields := struct { b a[event.context.m]; }; context := struct { }; };",
+                5,
+                MetaItemCause::BadReference,
+            ),
+            (
+                "stream { }; event { fields := struct { b x[event.context.n]; word y; }; context := struct { b m; }; };",
+                4,
+                MetaItemCause::BadReference,
+            ),
+            (
+                "stream { }; event { fields := struct { b x[event.context.n]; word y; }; context := struct { b n; }; };",
+                4,
+                MetaItemCause::UnknownType,
+            ),
+            (
+                "stream { }; event { fields := struct { b x[event.context.n]; }; context := struct { word n; }; };",
+                4,
+                MetaItemCause::UnknownType,
+            ),
+            (
+                "stream { }; event { fields := struct { b x[event.context.n]; }; context := struct { word m; }; };",
+                4,
+                MetaItemCause::BadReference,
+            ),
+            (
+                "stream { }; event { fields := struct { b x[event.context.n]; }; id = \"\"; context := struct { b n; string n; }; };",
+                4,
+                MetaItemCause::BadReference,
+            ),
+            (
+                "stream { }; event { fields := struct { b x[event.context.n]; }; id = \"\"; context := struct { b n[1]; }; };",
+                4,
+                MetaItemCause::BadReference,
+            ),
+            (
+                "struct h { string n; }; stream { }; event { fields := struct { b x[event.context.n]; }; id = \"\"; context := struct h; };",
+                5,
+                MetaItemCause::BadReference,
+            ),
+            (
+                "stream { }; event { context := struct { b n; }; fields := struct { struct s { b x[event.context.n]; } y; }; }; event { id = 1; fields := struct { struct s y; }; name = 5; context := struct { b m; }; };",
+                5,
+                MetaItemCause::BadReference,
+            ),
+            (
+                "stream { event.context := struct { b n; }; }; event { fields := struct { b x[stream.event.context.n]; }; stream_id = word; };",
+                4,
+                MetaItemCause::BadAttribute,
+            ),
+            (
+                "stream { }; event { fields := struct { b x[event.context.n]; }; id = \"\"; context := variant { b n; }; };",
+                4,
+                MetaItemCause::BadReference,
+            ),
+        ],
+    )
 }
 
 // A stream may have an event of an id that another stream has.

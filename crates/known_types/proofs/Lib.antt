@@ -4,5 +4,6 @@ pub mod Laters
 pub mod Named
 pub mod Nearest
 pub mod Pushes
+pub mod Rechecks
 pub mod Telling
 pub mod Views

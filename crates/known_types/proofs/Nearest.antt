@@ -3,7 +3,8 @@ use Rattle.std.proofs.Common.{◌≡◌, ◌∙◌, ◌++◌, List, [], ◌∷�
 use Rattle.std.proofs.lemmas.List.{map-append, drop_more, take_more}
 use Rattle.type_table.specs.declared.meta.FieldMeta.{FieldMeta}
 use Rattle.type_table.specs.Names.{same_name}
-use Rattle.known_types.specs.References.{nearest, nearest_in, or_else}
+use Rattle.known_types.specs.References.{nearest}
+use Rattle.known_types.specs.Following.{nearest_in, or_else}
 use Rattle.type_table.specs.Table.{Table, AreBelow, FieldNamesIn, FieldsIn, fields_at, name_at, tree, trees}
 use Rattle.type_table.specs.Types.{Text, Ty}
 use Rattle.known_types.specs.View.{read_at}

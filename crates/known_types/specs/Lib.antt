@@ -1,7 +1,11 @@
+pub mod Ahead
+pub mod Around
+pub mod Following
 pub mod Known
 pub mod Labels
 pub mod Rechecked
 pub mod References
+pub mod Said
 pub mod Telling
 pub mod Traces
 pub mod Uses

@@ -1,6 +1,6 @@
 -- The ways in a type that was declared before, from where it is used.
 use Rattle.std.specs.Prelude.{Option, Some, None, Bool, true, false}
-use Rattle.known_types.specs.declared.around.Around.{Around}
+use Rattle.known_types.specs.Around.{Around}
 use Rattle.known_types.specs.declared.way.Want.{Want}
 use Rattle.known_types.specs.declared.way.Want.TheVariants.{Tag, Length}
 use Rattle.known_types.specs.Known.{Step, ◌>>◌, pure, opened, entered, with_field, ended}
@@ -9,7 +9,7 @@ use Rattle.type_table.specs.Types.{Text, Way, Ty, Fields, Whole, Named, Str, Str
 
 abbrev pub passed : Around → Want → Option Way → Step (Unit {0})
 passed a want None = pure tt
-passed a want (Some way) = λ k. settled (judge a k.frames k.scopes want way.scope way.names) want way.scope way.names k
+passed a want (Some way) = λ k. settled (judge a k want way.scope way.names) want way.scope way.names k
 
 abbrev pub inner_name : Text → Ty → Option Text
 inner_name name (Struct align fields) = Some name

@@ -1,50 +1,24 @@
 -- Where the way of a tag or a length leads (CTF 1.8, section 7.3.2).
-use Rattle.std.specs.Prelude.{ℕ, Bool, true, false, not, ◌&&◌, List, [], ◌∷◌, ◌++◌, reverse, Option, Some, None, nat_eq, nat_lt, if◌then◌else◌}
-use Rattle.known_types.specs.declared.around.Around.{Around}
-use Rattle.known_types.specs.declared.around.Written.{Written}
+use Rattle.std.specs.Prelude.{ℕ, Bool, true, false, ◌&&◌, List, [], ◌∷◌, ◌++◌, reverse, Option, Some, None, nat_eq, nat_lt, if◌then◌else◌}
+use Rattle.tsdl_parser.specs.declared.tree.TypeTree.{TypeTree}
 use Rattle.type_table.specs.declared.cause.MetaItemCause.TheVariants.{BadReference}
 use Rattle.type_table.specs.declared.meta.ScopeName.{ScopeName}
 use Rattle.type_table.specs.declared.meta.ScopeName.TheVariants.{PacketHeader, PacketContext, EventHeader, StreamContext, EventContext, EventFields}
 use Rattle.known_types.specs.declared.way.Judgement.{Judgement}
 use Rattle.known_types.specs.declared.way.Judgement.TheVariants.{Holds, Breaks, Waits}
 use Rattle.known_types.specs.declared.way.Want.{Want}
-use Rattle.known_types.specs.declared.way.Want.TheVariants.{Tag, Length}
 use Rattle.type_table.specs.Names.{names_said, same_name, scope_said}
 use Rattle.type_table.specs.Table.{way_by}
-use Rattle.type_table.specs.Types.{Text, Way, Ty, Fields, Whole, Named, Struct, No, Field}
-use Rattle.known_types.specs.Known.{Frame, Later, Scopes, Step, Good, pure, breaks, scope_type, with_later}
-
--- a tag is an enumeration, and a length an unsigned integer
-abbrev pub suits : Want → Ty → Bool
-suits Tag (Named i labels) = true
-suits Length (Whole i) = not i.signed
-suits _ _ = false
-
-abbrev pub suits_if_any : Want → Option Ty → Bool
-suits_if_any want None = false
-suits_if_any want (Some ty) = suits want ty
-
-abbrev pub or_else : {A : Type 0} → Option A → Option A → Option A
-or_else (Some a) b = Some a
-or_else None b = b
+use Rattle.type_table.specs.Types.{Text, Way, Ty}
+use Rattle.known_types.specs.Ahead.{may_lead}
+use Rattle.known_types.specs.Around.{Around, tree_of}
+use Rattle.known_types.specs.Following.{follow, or_else, suits_if_any}
+use Rattle.known_types.specs.Known.{Frame, Known, Later, Scopes, Step, Good, pure, breaks, scope_type, with_later}
 
 -- the nearest field of a name, which is the last
 abbrev pub nearest : Text → List (Text × Ty) → Option Ty
 nearest name [] = None
 nearest name (f ∷ fs) = or_else (nearest name fs) (if same_name name f.0 then Some f.1 else None)
-
-abbrev pub nearest_in : Text → Fields → Option Ty
-nearest_in name No = None
-nearest_in name (Field f ty fields) = or_else (nearest_in name fields) (if same_name name f then Some ty else None)
-
--- each further name is that of a field of the structure before
-abbrev pub member : Text → Option Ty → Option Ty
-member name (Some (Struct align fields)) = nearest_in name fields
-member name _ = None
-
-abbrev pub follow : Option Ty → List Text → Option Ty
-follow ty [] = ty
-follow ty (name ∷ names) = follow (member name ty) names
 
 -- the field of this name of a structure that is being read
 abbrev pub in_frame : Text → Frame → Option Ty
@@ -63,11 +37,13 @@ abbrev pub is_inner : Text → Option Text → Bool
 is_inner name None = false
 is_inner name (Some inner) = same_name name inner
 
--- in a scope that is being read the way begins at its outermost structure, and may go through those that are being read
+-- in a scope that is being read the way begins at its outermost structure, and may go through those that are being read; a variant has no members
 abbrev pub from_outside : List Frame → List Text → Option Ty
 from_outside [] names = None
 from_outside (f ∷ fs) [] = None
-from_outside (f ∷ fs) (name ∷ names) = if is_inner name f.inner then from_outside fs names else follow (nearest name f.fields) names
+from_outside (f ∷ fs) (name ∷ names) =
+    if f.is_struct then (if is_inner name f.inner then from_outside fs names else follow (nearest name f.fields) names)
+    else None
 
 -- the order in which the scopes are read
 abbrev pub rank : ScopeName → ℕ
@@ -78,37 +54,33 @@ rank StreamContext = 3
 rank EventContext = 4
 rank EventFields = 5
 
--- the block that is read has an entry for this scope
-abbrev pub is_written : ScopeName → Written → Bool
-is_written PacketHeader w = w.packet_header
-is_written PacketContext w = w.packet_context
-is_written EventHeader w = w.event_header
-is_written StreamContext w = w.stream_context
-is_written EventContext w = w.event_context
-is_written EventFields w = w.event_fields
-
 abbrev pub verdict : Bool → Judgement
 verdict holds = if holds then Holds else Breaks
 
--- into a scope that is read before; where its entry is still to come, the block's end decides
-abbrev pub judge_earlier : Around → Want → ScopeName → List Text → Option Ty → Judgement
-judge_earlier a want scope names (Some ty) = verdict (suits_if_any want (follow (Some ty) names))
-judge_earlier a want scope names None = if is_written scope a.written then Waits else Breaks
+-- by the text of its entry the way may lead into a scope; then the block's end decides
+abbrev pub foreseen : Known → Want → List Text → Option TypeTree → Judgement
+foreseen k want names None = Breaks
+foreseen k want names (Some t) = if may_lead k want names t then Waits else Breaks
 
-abbrev pub judge_scope : Around → List Frame → Scopes → Want → ScopeName → List Text → Option ScopeName → Judgement
-judge_scope a frames scopes want scope names None = Breaks
-judge_scope a frames scopes want scope names (Some reading) =
-    if nat_eq (rank scope) (rank reading) then verdict (suits_if_any want (from_outside (reverse frames) names))
-    else if nat_lt (rank scope) (rank reading) then judge_earlier a want scope names (scope_type scope scopes)
+-- into a scope that is read before; where its entry is still to come, the entry's text is looked at
+abbrev pub judge_earlier : Around → Known → Want → ScopeName → List Text → Option Ty → Judgement
+judge_earlier a k want scope names (Some ty) = verdict (suits_if_any want (follow (Some ty) names))
+judge_earlier a k want scope names None = foreseen k want names (tree_of scope a.written)
+
+abbrev pub judge_scope : Around → Known → Want → ScopeName → List Text → Option ScopeName → Judgement
+judge_scope a k want scope names None = Breaks
+judge_scope a k want scope names (Some reading) =
+    if nat_eq (rank scope) (rank reading) then verdict (suits_if_any want (from_outside (reverse k.frames) names))
+    else if nat_lt (rank scope) (rank reading) then judge_earlier a k want scope names (scope_type scope k.scopes)
     else Breaks
 
 abbrev pub judge_here : List Frame → Want → List Text → Judgement
 judge_here frames want [] = Breaks
 judge_here frames want (name ∷ names) = verdict (suits_if_any want (from_inside frames name names))
 
-abbrev pub judge : Around → List Frame → Scopes → Want → Option ScopeName → List Text → Judgement
-judge a frames scopes want None names = judge_here frames want names
-judge a frames scopes want (Some scope) names = judge_scope a frames scopes want scope names a.reading
+abbrev pub judge : Around → Known → Want → Option ScopeName → List Text → Judgement
+judge a k want None names = judge_here k.frames want names
+judge a k want (Some scope) names = judge_scope a k want scope names a.reading
 
 abbrev pub settled : Judgement → Want → Option ScopeName → List Text → Step (Unit {0})
 settled Holds want scope names = pure tt
@@ -121,7 +93,7 @@ way_said words = way_by (scope_said words) (names_said words)
 
 -- a way of these words from here
 abbrev pub refer : Around → Want → List Text → Step (Unit {0})
-refer a want words = λ k. settled (judge a k.frames k.scopes want (scope_said words) (names_said words)) want (scope_said words) (names_said words) k
+refer a want words = λ k. settled (judge a k want (scope_said words) (names_said words)) want (scope_said words) (names_said words) k
 
 abbrev pub leads : Scopes → Later → Bool
 leads scopes l = suits_if_any l.want (follow (scope_type l.scope scopes) l.names)

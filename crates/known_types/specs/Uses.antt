@@ -16,8 +16,7 @@ abbrev pub is_struct : Ty → Bool
 is_struct (Struct align fields) = true
 is_struct _ = false
 
--- a field and an element have a tag where they are variants, and a scope is a structure
+-- a field and an element have a tag where they are variants
 abbrev pub may_be : Use → Ty → Bool
 may_be used.Field ty = not (is_loose ty)
-may_be used.Scope ty = is_struct ty
-may_be used.Name ty = true
+may_be used.Alone ty = true

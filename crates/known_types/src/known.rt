@@ -4,6 +4,7 @@ ghost use Rattle.known_types.specs.Known.{Gives, empty_known, sized, type_named,
 ghost use Rattle.type_table.specs.Table.{IsBased, IsSound, Keeps, NamesIn, RefersIn, name_at, shape, tree_at, trees};
 ghost use Rattle.known_types.specs.View.{place_of, places_set, state, with_table};
 
+mod ahead;
 mod built;
 mod ending;
 mod frames;

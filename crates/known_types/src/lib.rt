@@ -6,9 +6,11 @@ mod around;
 mod known;
 mod labels;
 mod name_map;
+mod said;
 mod way;
 
 pub use around::{Around, Written};
 pub use known::Known;
 pub use labels::{HIGHEST, LOWEST};
+pub use said::{is_named, is_only, is_signed, is_word, sign_said, value_named};
 pub use way::{Judgement, Use, Want};

@@ -23,8 +23,6 @@ pub enum Judgement {
 pub enum Use {
     /// The type of a field, or of what is in a list.
     Field,
-    /// The type of a scope.
-    Scope,
-    /// A type that gets a name, or nothing but a look.
-    Name,
+    /// The type of an alias, an item or an entry.
+    Alone,
 }

@@ -14,10 +14,10 @@ use Rattle.trace_metadata.specs.Files.{HasTokens, HasDecls, IsTrace, IsRefused}
 use Rattle.trace_metadata.specs.declared.cause.MetaCause.{MetaCause}
 use Rattle.trace_metadata.specs.declared.cause.MetaCause.TheVariants.{Packet, Byte, Token, Syntax, Item}
 
-one_tokens : (bytes : List ℕ) (xs ys : List lexed.Token) → HasTokens bytes xs → HasTokens bytes ys → xs ≡ ys
+pub one_tokens : (bytes : List ℕ) (xs ys : List lexed.Token) → HasTokens bytes xs → HasTokens bytes ys → xs ≡ ys
 one_tokens bytes xs ys h g = lex.one_list h.text xs ys h.are_tokens (subst (λ text. IsTokens text ys) (packets.one_text bytes g.text h.text g.is_text h.is_text) g.are_tokens)
 
-one_decls : (bytes : List ℕ) (xs ys : List Decl) → HasDecls bytes xs → HasDecls bytes ys → xs ≡ ys
+pub one_decls : (bytes : List ℕ) (xs ys : List Decl) → HasDecls bytes xs → HasDecls bytes ys → xs ≡ ys
 one_decls bytes xs ys h g = parser.one_list h.tokens xs ys h.are_decls (subst (λ tokens. IsParsed tokens ys) (one_tokens bytes g.tokens h.tokens g.has_tokens h.has_tokens) g.are_decls)
 
 whole : Trace → Declared Trace → Trace

@@ -4,8 +4,10 @@ ghost use Rattle.known_types.specs.Traces.{Trace};
 ghost use Rattle.trace_metadata.specs.Files.{IsTrace, IsRefused};
 ghost use Rattle.trace_metadata.specs.declared.cause.MetaCause.{MetaCause};
 
-/// A file declares at most one trace, and where it declares one it is refused nowhere.
+/// A file declares at most one trace, and where it declares one it is refused nowhere. It is refused at one place at most, for
+/// one cause.
 pub fn one_trace()
     ensures trace { (bytes : List ℕ) (a b : Trace) → IsTrace bytes a → IsTrace bytes b → a ≡ b }
     ensures refused { (bytes : List ℕ) (t : Trace) (cause : MetaCause) → IsTrace bytes t → ¬ (IsRefused bytes cause) }
+    ensures one_refusal { (bytes : List ℕ) (a b : MetaCause) → IsRefused bytes a → IsRefused bytes b → a ≡ b }
 {}

@@ -101,6 +101,28 @@ not_here text rest (p ∷ ps) (q ∷ qs) a b some none =
 pub no_refusal : (text : List ℕ) (xs : List Token) (at : ℕ) → IsTokens text xs → IsRefused text at → ⊥
 no_refusal text xs at a b = not_here text b.rest a.pieces b.pieces a.leads b.leads b.some b.none
 
+-- where nothing begins, no piece does
+none_begins : (text : List ℕ) (p : Piece) → IsNone text → IsFirst text p.len p.lexeme → ⊥
+none_begins text p none first =
+    let cut = none p.len p.lexeme first.longest.within first.longest.front in
+    let whole = first.whole in
+    absurd (cc)
+
+-- two ways to where nothing begins end at one place
+one_end : (text r q : List ℕ) (ps qs : List Piece) → Leads text ps r → Leads text qs q → IsNone r → IsNone q → r ≡ q
+one_end text r q [] [] a b none other = sym a ∙ b
+one_end text r q [] (p ∷ ps) a b none other = absurd (none_begins r p none (subst (λ t. IsFirst t p.len p.lexeme) a b.0))
+one_end text r q (p ∷ ps) [] a b none other = absurd (none_begins q p other (subst (λ t. IsFirst t p.len p.lexeme) b a.0))
+one_end text r q (p ∷ ps) (o ∷ os) a b none other =
+    let same = same_piece text p o a.0 b.0 in
+    one_end (drop p.len text) r q ps os a.1 (subst (λ x. Leads (drop x.len text) os q) (sym same) b.1) none other
+
+-- a text is refused at one byte at most
+pub one_refusal : (text : List ℕ) (a b : ℕ) → IsRefused text a → IsRefused text b → a ≡ b
+one_refusal text a b h g =
+    let same : length h.rest ≡ length g.rest = ap length (one_end text h.rest g.rest h.pieces g.pieces h.leads g.leads h.none g.none) in
+    omega (arith, same, h.place, g.place)
+
 -- the text up to a place was read, with these tokens
 pub record HasRead (text : List ℕ) (start : ℕ) (tokens : List Token) : Type 0 where
   pub inside : start ≤ length text

@@ -1,5 +1,6 @@
 -- Items one behind the other.
-use Rattle.std.proofs.Common.{◌≡◌, ℕ, zero, suc, ◌+◌, ◌<◌, ◌≤◌, List, [], ◌∷◌, ◌++◌, length, take, get_or, fold, None, refl, sym, ap, ◌∙◌, subst, arith}
+use Rattle.std.proofs.Common.{◌≡◌, ℕ, zero, suc, ◌+◌, ◌<◌, ◌≤◌, List, [], ◌∷◌, ◌++◌, length, take, get_or, fold, Bool, true, false, nat_lt, None, refl, sym, ap, ◌∙◌, subst, arith}
+use Rattle.std.proofs.lemmas.Bool.{ltb-true, ltb-false}
 use Rattle.tsdl_lex.specs.declared.token.Token.{Token}
 use Rattle.tsdl_parser.specs.declared.tree.Decl.{Decl}
 use Rattle.tsdl_parser.specs.declared.tree.Item.{Item}
@@ -75,6 +76,35 @@ not_here total ts rest (x ∷ xs) (y ∷ ys) fits h g some none =
 
 pub not_refused : (tokens : Tokens) (xs : List Decl) (number : ℕ) → IsParsed tokens xs → IsRefused tokens number → ⊥
 not_refused tokens xs number h g = not_here (length tokens) tokens g.rest xs g.decls (shallow_fits tokens h.shallow) h.leads g.leads g.some g.none
+
+-- tokens are too deep behind one of them at most
+pub one_depth : (tokens : Tokens) (a b : ℕ) → IsTooDeep tokens a → IsTooDeep tokens b → a ≡ b
+one_depth tokens a b h g = by (nat_lt a b) refl (nat_lt b a) refl
+  where
+    by : (less : Bool) → nat_lt a b ≡ less → (more : Bool) → nat_lt b a ≡ more → a ≡ b
+    by true e more f = absurd (let few = g.first a (ltb-true a b e) in let many = h.deep in omega (arith, few, many))
+    by false e true f = absurd (let few = h.first b (ltb-true b a f) in let many = g.deep in omega (arith, few, many))
+    by false e false f = omega (arith, ltb-false a b e, ltb-false b a f)
+
+-- and then they are refused at no item
+pub shallow_or_deep : (tokens : Tokens) (token number : ℕ) → IsTooDeep tokens token → IsRefused tokens number → ⊥
+shallow_or_deep tokens token number h g = let few = g.shallow token h.within in let many = h.deep in omega (arith, few, many)
+
+-- two ways to where no item begins are as long
+one_end : (total : ℕ) (ts r q : Tokens) (xs ys : List Decl) → Fits 0 ts → Leads total ts xs r → Leads total ts ys q → ((i : Item) (after : Tokens) → IsItem r i after → ⊥) → ((i : Item) (after : Tokens) → IsItem q i after → ⊥) → length xs ≡ length ys
+one_end total ts r q [] [] fits h g none other = refl
+one_end total ts r q [] (y ∷ ys) fits h g none other = absurd (none y.item g.0 (subst (λ l. IsItem l y.item g.0) h g.1))
+one_end total ts r q (x ∷ xs) [] fits h g none other = absurd (other x.item h.0 (subst (λ l. IsItem l x.item h.0) g h.1))
+one_end total ts r q (x ∷ xs) (y ∷ ys) fits h g none other =
+    let same = same_item ts x.item y.item h.0 g.0 fits h.1 g.1 in
+    let rest = one_end total h.0 r q xs ys ((passes_item ts x.item h.0 h.1).fits 0 fits) h.3 (subst (λ l. Leads total l ys q) (sym same.1) g.3) none other in
+    omega (arith, rest)
+
+-- they are refused at one item at most
+pub one_refusal : (tokens : Tokens) (a b : ℕ) → IsRefused tokens a → IsRefused tokens b → a ≡ b
+one_refusal tokens a b h g =
+    let same = one_end (length tokens) tokens h.rest g.rest h.decls g.decls (shallow_fits tokens h.shallow) h.leads g.leads h.none g.none in
+    omega (arith, same, h.number, g.number)
 
 -- what was read up to a place
 pub record HasRead (tokens rest : Tokens) (decls : List Decl) : Type 0 where

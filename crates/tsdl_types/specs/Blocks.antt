@@ -1,5 +1,6 @@
 -- The blocks of a text and what they tell (CTF 1.8, sections 5 to 7). An entry is judged where it ends; what is missing, and what is wrong by what isn't written, at the closing brace.
-use Rattle.std.specs.Prelude.{ℕ, pos, Bool, true, false, not, ◌&&◌, ◌||◌, if◌then◌else◌, List, [], ◌∷◌, ◌++◌, Option, Some, None, is_some, unwrap_or, codes, Result, Ok, Err, ◌≡◌}
+use Rattle.std.specs.Prelude.{ℕ, pos, Bool, true, false, not, ◌&&◌, ◌||◌, if◌then◌else◌, List, [], ◌∷◌, Option, Some, None, is_some, unwrap_or, codes, Result, Ok, Err, ◌≡◌}
+use Rattle.std.specs.List.{list_any}
 use Rattle.trace_types.specs.declared.byte_order.ByteOrderKind.{ByteOrderKind}
 use Rattle.tsdl_parser.specs.declared.tree.Attr.{Attr}
 use Rattle.tsdl_parser.specs.declared.tree.AttrValue.{AttrValue}
@@ -8,8 +9,7 @@ use Rattle.tsdl_parser.specs.declared.tree.BlockKind.{BlockKind}
 use Rattle.tsdl_parser.specs.declared.tree.BlockKind.TheVariants.{Trace, Stream, Event, Clock, Env, Callsite}
 use Rattle.tsdl_parser.specs.declared.tree.Entry.{Entry}
 use Rattle.tsdl_parser.specs.declared.tree.Entry.TheVariants as entry
-use Rattle.known_types.specs.declared.around.Around.{Around}
-use Rattle.known_types.specs.declared.around.Written.{Written}
+use Rattle.known_types.specs.Around.{Around, Written}
 use Rattle.type_table.specs.declared.cause.MetaItemCause.{MetaItemCause}
 use Rattle.type_table.specs.declared.fault.Fault.{Fault}
 use Rattle.type_table.specs.declared.fault.Fault.TheVariants.{Breaks, OutOfMemory}
@@ -21,13 +21,15 @@ use Rattle.type_table.specs.declared.told.EventId.{EventId}
 use Rattle.known_types.specs.declared.way.Use.TheVariants as used
 use Rattle.known_types.specs.Known.{Step, Good, ◌>>=◌, ◌>>◌, pure, breaks, needs, scope_set, with_later, with_scopes}
 use Rattle.known_types.specs.References.{all_lead}
+use Rattle.known_types.specs.Uses.{is_struct}
 use Rattle.known_types.specs.Telling.{has_clock, has_event, stream_of, scopes_begun, telling, with_clock, with_event_named, with_hostname, with_stream, with_trace_read, with_uuid}
 use Rattle.type_rules.specs.Typing.{fields_within, used_as}
 use Rattle.tsdl_types.specs.Uuids.{uuid_said}
 use Rattle.type_rules.specs.Limits.{MAX_BRACES}
 use Rattle.tsdl_parser.specs.declared.tree.TypeTree.{TypeTree}
 use Rattle.type_table.specs.Types.{Text}
-use Rattle.type_rules.specs.Attributes.{same_words, is_seen, noted, is_named, said, value_named, id_said, freq_said, offset_said, is_version, trace_order_said}
+use Rattle.type_rules.specs.Attributes.{dotted, is_seen, noted, id_said, freq_said, offset_said, is_version, trace_order_said}
+use Rattle.known_types.specs.Said.{is_named, said, same_words, value_named}
 
 -- ---- entries
 
@@ -41,11 +43,11 @@ attrs_in [] = []
 attrs_in (entry.Assign a ∷ es) = a ∷ attrs_in es
 attrs_in (entry.Declare path ty ∷ es) = attrs_in es
 
--- an entry of a type for this path
-abbrev pub is_declared : List Text → List Entry → Bool
-is_declared path [] = false
-is_declared path (entry.Assign a ∷ es) = is_declared path es
-is_declared path (entry.Declare p ty ∷ es) = same_words p path || is_declared path es
+-- the type of the first entry of one for this path
+abbrev pub tree_declared : List Text → List Entry → Option TypeTree
+tree_declared path [] = None
+tree_declared path (entry.Assign a ∷ es) = tree_declared path es
+tree_declared path (entry.Declare p ty ∷ es) = if same_words p path then Some ty else tree_declared path es
 
 -- an entry of a value for this word
 abbrev pub is_assigned : Text → List Entry → Bool
@@ -73,13 +75,13 @@ scope_given Event path = first_scope (
 scope_given _ path = None
 
 abbrev pub nothing_written : Written
-nothing_written = record { packet_header = false; packet_context = false; event_header = false; stream_context = false; event_context = false; event_fields = false }
+nothing_written = record { packet_header = None; packet_context = None; event_header = None; stream_context = None; event_context = None; event_fields = None }
 
--- the scopes that a block has entries for
+-- the types that the entries of a block give its scopes
 abbrev pub written : BlockKind → List Entry → Written
-written Trace es = record { packet_header = is_declared (two (codes "packet") (codes "header")) es; packet_context = false; event_header = false; stream_context = false; event_context = false; event_fields = false }
-written Stream es = record { packet_header = false; packet_context = is_declared (two (codes "packet") (codes "context")) es; event_header = is_declared (two (codes "event") (codes "header")) es; stream_context = is_declared (two (codes "event") (codes "context")) es; event_context = false; event_fields = false }
-written Event es = record { packet_header = false; packet_context = false; event_header = false; stream_context = false; event_context = is_declared (codes "context" ∷ []) es; event_fields = is_declared (codes "fields" ∷ []) es }
+written Trace es = record { packet_header = tree_declared (two (codes "packet") (codes "header")) es; packet_context = None; event_header = None; stream_context = None; event_context = None; event_fields = None }
+written Stream es = record { packet_header = None; packet_context = tree_declared (two (codes "packet") (codes "context")) es; event_header = tree_declared (two (codes "event") (codes "header")) es; stream_context = tree_declared (two (codes "event") (codes "context")) es; event_context = None; event_fields = None }
+written Event es = record { packet_header = None; packet_context = None; event_header = None; stream_context = None; event_context = tree_declared (codes "context" ∷ []) es; event_fields = tree_declared (codes "fields" ∷ []) es }
 written _ es = nothing_written
 
 -- ---- values
@@ -97,14 +99,10 @@ values_of Clock = codes "name" ∷ codes "freq" ∷ codes "offset" ∷ codes "of
 values_of Env = codes "hostname" ∷ []
 values_of Callsite = []
 
--- words with a dot between them
-abbrev pub dotted_on : List Text → Text
-dotted_on [] = []
-dotted_on (w ∷ ws) = codes "." ++ (w ++ dotted_on ws)
-
-abbrev pub dotted : List Text → Text
-dotted [] = []
-dotted (w ∷ ws) = w ++ dotted_on ws
+-- an attribute of a block that has a value; behind the first host's name later ones aren't looked at
+abbrev pub has_value : BlockKind → Bool → List Text → Bool
+has_value Env true path = false
+has_value kind is_hostname_told path = is_one_of (values_of kind) path
 
 -- a name is a text or a path
 abbrev pub name_said : AttrValue → Option Text
@@ -134,7 +132,7 @@ stream_there id = λ k. needs (is_some (stream_of id k.told)) BadReference k
 abbrev pub new_clock : Text → Step (Unit {0})
 new_clock name = λ k. needs (not (has_clock name k.told)) DuplicateId k
 
--- ---- entries that have values, with all entries of the block and those behind
+-- ---- entries that have values, with all entries of the block
 
 -- what a test ensures
 abbrev pub Needs : Bool → MetaItemCause → Result (Unit {0}) Fault → Type 0
@@ -165,15 +163,27 @@ stream_value a =
 abbrev pub event_id_in : List Entry → EventId
 event_id_in all = record { stream = id_in (codes "stream_id") all; id = id_in (codes "id") all }
 
--- the pair of ids is judged at the last of the two that is written
-abbrev pub new_pair : Text → List Entry → List Entry → Step (Unit {0})
-new_pair other all behind = if is_assigned other behind then pure tt else new_event (event_id_in all)
+-- an entry of this one word, of a value or a type
+abbrev pub is_entry : Text → Entry → Bool
+is_entry name e = same_words (path_of e) (name ∷ [])
 
-abbrev pub event_value : List Entry → List Entry → Attr → Step (Unit {0})
-event_value all behind a =
+-- of two words that entries are of, the first entry of this one stands behind an entry of the other, if there is one
+abbrev pub stands_last : Text → Text → List Entry → Bool
+stands_last name other [] = true
+stands_last name other (e ∷ es) =
+    if is_entry name e then not (list_any (is_entry other) es)
+    else if is_entry other e then true
+    else stands_last name other es
+
+-- the pair of ids is judged at the one that first stands last
+abbrev pub new_pair : Text → Text → List Entry → Step (Unit {0})
+new_pair name other all = if stands_last name other all then new_event (event_id_in all) else pure tt
+
+abbrev pub event_value : List Entry → Attr → Step (Unit {0})
+event_value all a =
     if is_named (codes "name") a then reads (name_said a.value)
-    else if is_named (codes "id") a then reads (id_said a.value) >> new_pair (codes "stream_id") all behind
-    else if is_named (codes "stream_id") a then reads (id_said a.value) >> new_pair (codes "id") all behind >> stream_there (unwrap_or (id_said a.value) 0)
+    else if is_named (codes "id") a then reads (id_said a.value) >> new_pair (codes "id") (codes "stream_id") all
+    else if is_named (codes "stream_id") a then reads (id_said a.value) >> new_pair (codes "stream_id") (codes "id") all >> stream_there (unwrap_or (id_said a.value) 0)
     else pure tt
 
 abbrev pub clock_value : Attr → Step (Unit {0})
@@ -195,13 +205,13 @@ env_value a =
     if is_named (codes "hostname") a then (λ k. hostname_read k.told.hostname (text_said a.value) k)
     else pure tt
 
-abbrev pub value_by : BlockKind → List Entry → List Entry → Attr → Step (Unit {0})
-value_by Trace all behind a = trace_value a
-value_by Stream all behind a = stream_value a
-value_by Event all behind a = event_value all behind a
-value_by Clock all behind a = clock_value a
-value_by Env all behind a = env_value a
-value_by Callsite all behind a = pure tt
+abbrev pub value_by : BlockKind → List Entry → Attr → Step (Unit {0})
+value_by Trace all a = trace_value a
+value_by Stream all a = stream_value a
+value_by Event all a = event_value all a
+value_by Clock all a = clock_value a
+value_by Env all a = env_value a
+value_by Callsite all a = pure tt
 
 -- ---- entries
 
@@ -210,33 +220,33 @@ abbrev pub is_again : BlockKind → Bool → Bool
 is_again Env stood = false
 is_again _ stood = stood
 
--- around a type of an entry: the scope that it is of, if it is of one, and what the block has entries for
+-- around a type of an entry: the scope that it is of, if it is of one, and the types of the block's scopes
 abbrev pub around_entry : ByteOrderKind → BlockKind → List Entry → List Text → Around
 around_entry order kind all path = record { order = order; reading = scope_given kind path; written = written kind all }
 
--- the type of a scope is a structure
+-- the type of a scope is a structure; a breach in a type comes before a breach by its use
 abbrev pub declared_by : ByteOrderKind → BlockKind → List Entry → Bool → List Text → TypeTree → Option ScopeName → Step (Unit {0})
 declared_by order kind all stood path ty None = do
-  used_as (fields_within MAX_BRACES (around_entry order kind all path)) (around_entry order kind all path) used.Name ty
-  needs (not (is_again kind stood || is_one_of (values_of kind) path)) BadAttribute
+  used_as (fields_within MAX_BRACES (around_entry order kind all path)) (around_entry order kind all path) used.Alone ty
+  λ k. needs (not (is_again kind stood || has_value kind (is_some k.told.hostname) path)) BadAttribute k
 declared_by order kind all stood path ty (Some scope) = do
-  t ← used_as (fields_within MAX_BRACES (around_entry order kind all path)) (around_entry order kind all path) used.Scope ty
-  needs (not (is_again kind stood)) BadAttribute
+  t ← used_as (fields_within MAX_BRACES (around_entry order kind all path)) (around_entry order kind all path) used.Alone ty
+  needs (is_struct t && not (is_again kind stood)) BadAttribute
   λ k. Good (tt, with_scopes (scope_set scope t k.scopes) k)
 
-abbrev pub assigned_by : BlockKind → List Entry → Bool → List Entry → Attr → Step (Unit {0})
-assigned_by kind all stood behind a =
-    needs (not (is_again kind stood || is_some (scope_given kind a.path))) BadAttribute >> value_by kind all behind a
+abbrev pub assigned_by : BlockKind → List Entry → Bool → Attr → Step (Unit {0})
+assigned_by kind all stood a =
+    needs (not (is_again kind stood || is_some (scope_given kind a.path))) BadAttribute >> value_by kind all a
 
 -- an entry, whose path stood before or not
-unfoldable pub entry_of : ByteOrderKind → BlockKind → List Entry → Bool → List Entry → Entry → Step (Unit {0})
-entry_of order kind all stood behind (entry.Assign a) = assigned_by kind all stood behind a
-entry_of order kind all stood behind (entry.Declare path ty) = declared_by order kind all stood path ty (scope_given kind path)
+unfoldable pub entry_of : ByteOrderKind → BlockKind → List Entry → Bool → Entry → Step (Unit {0})
+entry_of order kind all stood (entry.Assign a) = assigned_by kind all stood a
+entry_of order kind all stood (entry.Declare path ty) = declared_by order kind all stood path ty (scope_given kind path)
 
 -- behind entries of these paths
 abbrev pub entries_from : ByteOrderKind → BlockKind → List Entry → List (List Text) → List Entry → Step (Unit {0})
 entries_from order kind all seen [] = pure tt
-entries_from order kind all seen (e ∷ es) = entry_of order kind all (is_seen (path_of e) seen) es e >> entries_from order kind all (noted (path_of e) seen) es
+entries_from order kind all seen (e ∷ es) = entry_of order kind all (is_seen (path_of e) seen) e >> entries_from order kind all (noted (path_of e) seen) es
 
 -- ---- blocks
 

@@ -1,5 +1,5 @@
 -- The items of a text, and the first that breaks a rule (CTF 1.8, sections 4 to 7).
-use Rattle.std.specs.Prelude.{◌≡◌, ℕ, ◌+◌, List, [], ◌∷◌, Option, Some, None, unwrap_or, codes, Result, Ok, Err, false}
+use Rattle.std.specs.Prelude.{◌≡◌, ℕ, ◌+◌, List, [], ◌∷◌, Option, Some, None, unwrap_or, codes, Result, Ok, Err}
 use Rattle.trace_types.specs.declared.byte_order.ByteOrderKind.{ByteOrderKind}
 use Rattle.trace_types.specs.declared.byte_order.ByteOrderKind.TheVariants.{Little}
 use Rattle.tsdl_parser.specs.declared.tree.BlockKind.TheVariants.{Trace}
@@ -8,7 +8,7 @@ use Rattle.tsdl_parser.specs.declared.tree.Entry.{Entry}
 use Rattle.tsdl_parser.specs.declared.tree.Item.{Item}
 use Rattle.tsdl_parser.specs.declared.tree.Item.TheVariants as item
 use Rattle.tsdl_parser.specs.declared.tree.TypeTree.TheVariants as tree
-use Rattle.known_types.specs.declared.around.Around.{Around}
+use Rattle.known_types.specs.Around.{Around}
 use Rattle.type_table.specs.declared.cause.MetaItemCause.{MetaItemCause}
 use Rattle.type_table.specs.declared.cause.MetaItemCause.TheVariants.{NoTrace}
 use Rattle.tsdl_types.specs.declared.error.MetaError.{MetaError}
@@ -18,26 +18,27 @@ use Rattle.type_table.specs.declared.fault.Fault.TheVariants as fault
 use Rattle.type_table.specs.declared.names.NameKind.TheVariants as kind
 use Rattle.known_types.specs.declared.way.Use.TheVariants as used
 use Rattle.known_types.specs.Known.{Known, Step, Typed, Good, Bad, ◌>>=◌, ◌>>◌, pure, new_name, declared, empty_known}
-use Rattle.known_types.specs.References.{or_else}
+use Rattle.known_types.specs.Following.{or_else}
 use Rattle.known_types.specs.Traces.{Trace as TraceDeclared, trace_of}
-use Rattle.type_rules.specs.Attributes.{said, trace_order_said}
-use Rattle.tsdl_types.specs.Blocks.{attrs_in, block_of}
+use Rattle.type_rules.specs.Attributes.{trace_order_said}
+use Rattle.known_types.specs.Said.{said}
+use Rattle.tsdl_types.specs.Blocks.{attrs_in, block_of, nothing_written}
 use Rattle.type_table.specs.Names.{spaced}
 use Rattle.type_rules.specs.Limits.{MAX_BRACES}
 use Rattle.type_rules.specs.Typing.{fields_within, used_as}
 
 -- nothing of a block stands around a type of an item
 abbrev pub outside : ByteOrderKind → Around
-outside order = record { order = order; reading = None; written = record { packet_header = false; packet_context = false; event_header = false; stream_context = false; event_context = false; event_fields = false } }
+outside order = record { order = order; reading = None; written = nothing_written }
 
 unfoldable pub item_of : ByteOrderKind → Item → Step (Unit {0})
 item_of order (item.Alias ty words) = do
-  t ← used_as (fields_within MAX_BRACES (outside order)) (outside order) used.Name ty
+  t ← used_as (fields_within MAX_BRACES (outside order)) (outside order) used.Alone ty
   new_name kind.Alias (Some (spaced words))
   declared kind.Alias (Some (spaced words)) t
-item_of order (item.Struct t) = used_as (fields_within MAX_BRACES (outside order)) (outside order) used.Name (tree.Struct t) >> pure tt
-item_of order (item.Variant t) = used_as (fields_within MAX_BRACES (outside order)) (outside order) used.Name (tree.Variant t) >> pure tt
-item_of order (item.Enum t) = used_as (fields_within MAX_BRACES (outside order)) (outside order) used.Name (tree.Enum t) >> pure tt
+item_of order (item.Struct t) = used_as (fields_within MAX_BRACES (outside order)) (outside order) used.Alone (tree.Struct t) >> pure tt
+item_of order (item.Variant t) = used_as (fields_within MAX_BRACES (outside order)) (outside order) used.Alone (tree.Variant t) >> pure tt
+item_of order (item.Enum t) = used_as (fields_within MAX_BRACES (outside order)) (outside order) used.Alone (tree.Enum t) >> pure tt
 item_of order (item.Block kind entries) = block_of order kind entries
 
 -- what a text declares, or the number of the first item that breaks a rule, from 1, and the cause

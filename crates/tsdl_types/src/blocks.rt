@@ -1,6 +1,7 @@
 //! The blocks of a text and what they tell.
 ghost use Rattle.std.specs.Prelude.{◌≡◌, ◌≤◌, codes, pos, unwrap_or, IfOk};
-ghost use Rattle.type_rules.specs.Attributes.{freq_said, offset_said, said};
+ghost use Rattle.type_rules.specs.Attributes.{freq_said, offset_said};
+ghost use Rattle.known_types.specs.Said.{said};
 ghost use Rattle.tsdl_types.specs.Blocks as blocks;
 ghost use Rattle.tsdl_types.specs.Blocks.{Needs};
 ghost use Rattle.tsdl_types.specs.Uuids.{uuid_said};
@@ -8,13 +9,13 @@ ghost use Rattle.known_types.specs.Known.{Does};
 ghost use Rattle.known_types.specs.View.{state};
 ghost use Rattle.type_table.specs.ToldKept.{IsOffset, IsRate};
 
-use crate::entries::{name_said, value_in};
+use crate::entries::{name_said, stands_last, value_in};
 use crate::uuids::uuid_said;
-use known_types::Known;
+use known_types::{Known, is_named};
 use std::alloc::Global;
 use trace_types::{OutOfMemory, Text};
 use tsdl_parser::{Attr, AttrValue, BlockKind, Entry};
-use type_rules::{freq_said, id_said, is_named, is_version, offset_said, trace_order_said};
+use type_rules::{freq_said, id_said, is_version, offset_said, trace_order_said};
 use type_table::{ClockRate, EventId, Fault, MetaItemCause, StreamScopes};
 
 /// Refuses with a cause where this doesn't hold.
@@ -109,36 +110,30 @@ fn event_id_in(all: &[Entry]) -> EventId
     }
 }
 
-// The pair of an event's ids is judged at the last of the two that is written.
-fn new_pair(types: &mut Known, other: &[u8], all: &[Entry], behind: &[Entry]) -> Result<(), Fault>
-    ensures { Does (blocks.new_pair other.now all.now behind.now (state types.old).known) result (state types.new) }
+// The pair of an event's ids is judged at the one that first stands last.
+fn new_pair(types: &mut Known, name: &[u8], other: &[u8], all: &[Entry]) -> Result<(), Fault>
+    ensures { Does (blocks.new_pair name.now other.now all.now (state types.old).known) result (state types.new) }
 {
-    if value_in(behind, other).is_some() {
-        Ok(())
-    } else {
+    if stands_last(all, name, other) {
         new_event(types, event_id_in(all))
+    } else {
+        Ok(())
     }
 }
 
 // An attribute of an event.
-fn event_value(
-    types: &mut Known,
-    alloc: Global,
-    all: &[Entry],
-    behind: &[Entry],
-    attr: &Attr,
-) -> Result<(), Fault>
-    ensures { Does (blocks.event_value all.now behind.now attr.now (state types.old).known) result (state types.new) }
+fn event_value(types: &mut Known, alloc: Global, all: &[Entry], attr: &Attr) -> Result<(), Fault>
+    ensures { Does (blocks.event_value all.now attr.now (state types.old).known) result (state types.new) }
 {
     if is_named(attr, b"name") {
         let name = name_said(alloc, &attr.value)?;
         needs(name.is_some(), MetaItemCause::BadAttribute)
     } else if is_named(attr, b"id") {
         needs(id_said(&attr.value).is_some(), MetaItemCause::BadAttribute)?;
-        new_pair(types, b"stream_id", all, behind)
+        new_pair(types, b"id", b"stream_id", all)
     } else if is_named(attr, b"stream_id") {
         needs(id_said(&attr.value).is_some(), MetaItemCause::BadAttribute)?;
-        new_pair(types, b"id", all, behind)?;
+        new_pair(types, b"stream_id", b"id", all)?;
         stream_there(types, id_said(&attr.value).unwrap_or(0))
     } else {
         Ok(())
@@ -184,21 +179,20 @@ fn env_value(types: &mut Known, alloc: Global, attr: &Attr) -> Result<(), Fault>
     Ok(())
 }
 
-/// An attribute of a block that has a value. Behind it are these entries.
+/// An attribute of a block that has a value.
 pub fn value_of(
     types: &mut Known,
     alloc: Global,
     kind: BlockKind,
     all: &[Entry],
-    behind: &[Entry],
     attr: &Attr,
 ) -> Result<(), Fault>
-    ensures { Does (blocks.value_by kind all.now behind.now attr.now (state types.old).known) result (state types.new) }
+    ensures { Does (blocks.value_by kind all.now attr.now (state types.old).known) result (state types.new) }
 {
     match kind {
         BlockKind::Trace => trace_value(types, attr),
         BlockKind::Stream => stream_value(types, attr),
-        BlockKind::Event => event_value(types, alloc, all, behind, attr),
+        BlockKind::Event => event_value(types, alloc, all, attr),
         BlockKind::Clock => clock_value(types, alloc, attr),
         BlockKind::Env => env_value(types, alloc, attr),
         BlockKind::Callsite => Ok(()),

@@ -1,12 +1,14 @@
 //! The entries of blocks.
 ghost use Rattle.std.specs.Prelude.{◌≡◌, None, Some, IfNone, IfOk, IfSome};
-ghost use Rattle.type_rules.specs.Attributes.{same_words, value_named};
+ghost use Rattle.known_types.specs.Said.{same_words, value_named};
+ghost use Rattle.std.specs.List.{list_any};
 ghost use Rattle.tsdl_types.specs.Blocks as blocks;
 
+use known_types::{is_named, is_only};
 use std::alloc::Global;
 use trace_types::{OutOfMemory, Text};
 use tsdl_parser::{AttrValue, BlockKind, Entry};
-use type_rules::{is_named, is_only};
+use type_rules::dotted;
 use type_table::ScopeName;
 
 /// The path of an entry.
@@ -32,6 +34,35 @@ pub fn value_in<'a>(entries: &'a [Entry], name: &[u8]) -> Option<&'a AttrValue>
         }
     }
     None
+}
+
+/// Whether, of two words that entries are of, the first entry of `name` stands behind an entry of `other`, if there is one.
+pub fn stands_last(entries: &[Entry], name: &[u8], other: &[u8]) -> bool
+    ensures { result ≡ blocks.stands_last name.now other.now entries.now }
+{
+    for at in 0..entries.len() {
+        if is_entry(&entries[at], name) {
+            return !stands_in(&entries[at + 1..], other);
+        }
+        if is_entry(&entries[at], other) {
+            return true;
+        }
+    }
+    true
+}
+
+// Whether an entry of this one word is among these.
+fn stands_in(entries: &[Entry], name: &[u8]) -> bool
+    ensures { result ≡ list_any (blocks.is_entry name.now) entries.now }
+{
+    entries.iter().any(|entry| is_entry(entry, name))
+}
+
+// Whether an entry is of this one word.
+fn is_entry(entry: &Entry, name: &[u8]) -> bool
+    ensures { result ≡ blocks.is_entry name.now entry.now }
+{
+    is_only(path_of(entry), name)
 }
 
 /// The scope whose type an entry of a block gives.
@@ -68,19 +99,4 @@ pub fn name_said(alloc: Global, value: &AttrValue) -> Result<Option<Text>, OutOf
         AttrValue::Str(text) => Ok(Some(Text::from_bytes(alloc, text.as_bytes())?)),
         AttrValue::Path(words) => Ok(Some(dotted(alloc, words.as_slice())?)),
     }
-}
-
-// Words with a dot between them.
-fn dotted(alloc: Global, words: &[Text]) -> Result<Text, OutOfMemory>
-    ensures { IfOk result (λ name. name ≡ blocks.dotted words.now) }
-{
-    let mut name = Vec::new(alloc);
-    if let [first, rest @ ..] = words {
-        name.extend_from_slice(first.as_bytes())?;
-        for word in rest {
-            name.push(b'.')?;
-            name.extend_from_slice(word.as_bytes())?;
-        }
-    }
-    Text::from_bytes(alloc, name.as_slice())
 }

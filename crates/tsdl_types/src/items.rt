@@ -54,10 +54,11 @@ fn refused(at: usize, fault: Fault) -> MetaError
 fn item_of(types: &mut Known, alloc: Global, order: ByteOrderKind, item: &Item) -> Result<(), Fault>
     ensures { Does (items.item_of order item.now (state types.old).known) result (state types.new) }
 {
-    let around = outside(order);
+    let nothing = Written::nothing();
+    let around = &Around::new(order, None, &nothing);
     match item {
         Item::Alias { ty, words } => {
-            let place = used_as(types, alloc, around, MAX_BRACES, Use::Name, ty)?;
+            let place = used_as(types, alloc, around, MAX_BRACES, Use::Alone, ty)?;
             let name = Some(spaced(alloc, words.as_slice())?);
             new_name(types, NameKind::Alias, &name)?;
             declare(types, alloc, NameKind::Alias, &name, place)
@@ -84,34 +85,16 @@ fn item_of(types: &mut Known, alloc: Global, order: ByteOrderKind, item: &Item) 
 fn look(
     types: &mut Known,
     alloc: Global,
-    around: Around,
+    around: &Around<'_>,
     place: u32,
     is_known: bool,
 ) -> Result<(), Fault>
     requires { place < length (state types.old).types }
-    ensures { Does (looked_at around is_known (tree_at (state types.old).types place) (state types.old).known) result (state types.new) }
+    ensures { Does (looked_at around.now is_known (tree_at (state types.old).types place) (state types.old).known) result (state types.new) }
 {
     if is_known {
         types.recheck(alloc, around, place)
     } else {
         Ok(())
-    }
-}
-
-// Nothing of a block stands around a type of an item.
-fn outside(order: ByteOrderKind) -> Around
-    ensures { result ≡ items.outside order }
-{
-    Around {
-        order,
-        reading: None,
-        written: Written {
-            packet_header: false,
-            packet_context: false,
-            event_header: false,
-            stream_context: false,
-            event_context: false,
-            event_fields: false,
-        },
     }
 }

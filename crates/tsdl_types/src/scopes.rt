@@ -1,67 +1,58 @@
 //! The scopes of blocks, and the attributes that have values.
 ghost use Rattle.std.specs.Prelude.{◌≡◌, [], ◌∷◌, codes};
+ghost use Rattle.std.specs.Option.{option_copied};
 ghost use Rattle.tsdl_types.specs.Blocks as blocks;
 
 use crate::entries::is_two;
-use known_types::Written;
+use known_types::{Written, is_only};
 use trace_types::Text;
-use tsdl_parser::{BlockKind, Entry};
-use type_rules::is_only;
+use tsdl_parser::{BlockKind, Entry, TypeTree};
 
-/// The scopes that a block has entries for.
-pub fn written(kind: BlockKind, entries: &[Entry]) -> Written
+/// The types that the entries of a block give its scopes.
+pub fn written(kind: BlockKind, entries: &[Entry]) -> Written<'_>
     ensures { result ≡ blocks.written kind entries.now }
 {
-    let mut written = Written {
-        packet_header: false,
-        packet_context: false,
-        event_header: false,
-        stream_context: false,
-        event_context: false,
-        event_fields: false,
-    };
     match kind {
-        BlockKind::Trace => written.packet_header = has_two(entries, b"packet", b"header"),
-        BlockKind::Stream => {
-            written.packet_context = has_two(entries, b"packet", b"context");
-            written.event_header = has_two(entries, b"event", b"header");
-            written.stream_context = has_two(entries, b"event", b"context");
-        }
-        BlockKind::Event => {
-            written.event_context = has_one(entries, b"context");
-            written.event_fields = has_one(entries, b"fields");
-        }
-        _ => {}
+        BlockKind::Trace => Written::of_trace(tree_of_two(entries, b"packet", b"header")),
+        BlockKind::Stream => Written::of_stream(
+            tree_of_two(entries, b"packet", b"context"),
+            tree_of_two(entries, b"event", b"header"),
+            tree_of_two(entries, b"event", b"context"),
+        ),
+        BlockKind::Event => Written::of_event(
+            tree_of_one(entries, b"context"),
+            tree_of_one(entries, b"fields"),
+        ),
+        _ => Written::nothing(),
     }
-    written
 }
 
-// Whether an entry gives a type for these two words.
-fn has_two(entries: &[Entry], a: &[u8], b: &[u8]) -> bool
-    ensures { result ≡ blocks.is_declared (blocks.two a.now b.now) entries.now }
+// The type that an entry gives for these two words.
+fn tree_of_two<'a>(entries: &'a [Entry], a: &[u8], b: &[u8]) -> Option<&'a TypeTree>
+    ensures { option_copied result ≡ blocks.tree_declared (blocks.two a.now b.now) entries.now }
 {
     for entry in entries {
-        if let Entry::Declare { path, .. } = entry
+        if let Entry::Declare { path, ty } = entry
             && is_two(path.as_slice(), a, b)
         {
-            return true;
+            return Some(ty);
         }
     }
-    false
+    None
 }
 
-// Whether an entry gives a type for this word.
-fn has_one(entries: &[Entry], name: &[u8]) -> bool
-    ensures { result ≡ blocks.is_declared (name.now ∷ []) entries.now }
+// The type that an entry gives for this word.
+fn tree_of_one<'a>(entries: &'a [Entry], name: &[u8]) -> Option<&'a TypeTree>
+    ensures { option_copied result ≡ blocks.tree_declared (name.now ∷ []) entries.now }
 {
     for entry in entries {
-        if let Entry::Declare { path, .. } = entry
+        if let Entry::Declare { path, ty } = entry
             && is_only(path.as_slice(), name)
         {
-            return true;
+            return Some(ty);
         }
     }
-    false
+    None
 }
 
 /// Whether an attribute of a block has a value.

@@ -1,5 +1,5 @@
 //! Blocks, entry by entry.
-ghost use Rattle.std.specs.Prelude.{◌≡◌, [], OnOk};
+ghost use Rattle.std.specs.Prelude.{◌≡◌, [], is_some, OnOk};
 ghost use Rattle.tsdl_types.specs.Blocks as blocks;
 ghost use Rattle.tsdl_types.specs.Blocks.{path_of};
 ghost use Rattle.type_rules.specs.Attributes.{is_seen, noted};
@@ -17,13 +17,13 @@ use tsdl_parser::{Attr, BlockKind, Entry, TypeTree};
 use type_rules::{SeenPaths, used_as};
 use type_table::{Fault, MetaItemCause};
 
-// The entries of a block of a kind, where the trace has this byte order, and the scopes that it has entries for.
+// The entries of a block of a kind, where the trace has this byte order, and the types that they give its scopes.
 #[derive(Clone, Copy)]
 struct Block<'a> {
     order: ByteOrderKind,
     kind: BlockKind,
     all: &'a [Entry],
-    written: Written,
+    written: &'a Written<'a>,
 }
 
 /// What a block tells.
@@ -42,11 +42,12 @@ pub fn block_of(
     }
     let again = is_trace(kind) && types.is_trace_read();
     needs(!again, MetaItemCause::DuplicateId)?;
+    let written = &written(kind, all);
     let block = Block {
         order,
         kind,
         all,
-        written: written(kind, all),
+        written,
     };
     entered_by(types, alloc, block)
 }
@@ -65,7 +66,7 @@ fn is_trace(kind: BlockKind) -> bool
 }
 
 fn entered_by(types: &mut Known, alloc: Global, block: Block<'_>) -> Result<(), Fault>
-    requires { block.written ≡ blocks.written block.kind block.all.now }
+    requires { block.written.now ≡ blocks.written block.kind block.all.now }
     ensures { Does (blocks.entered_by block.entry.order block.entry.kind block.entry.all.now (state types.old).known) result (state types.new) }
 {
     types.begin(alloc, stream_before(block.kind, block.all));
@@ -84,7 +85,7 @@ fn stream_before(kind: BlockKind, all: &[Entry]) -> Option<u64>
 }
 
 fn entries_of(types: &mut Known, alloc: Global, block: Block<'_>) -> Result<(), Fault>
-    requires { block.written ≡ blocks.written block.kind block.all.now }
+    requires { block.written.now ≡ blocks.written block.kind block.all.now }
     ensures { Does (blocks.entries_from block.entry.order block.entry.kind block.entry.all.now [] block.entry.all.now (state types.old).known) result (state types.new) }
 {
     let seen = SeenPaths::with_capacity(alloc, block.all.len())?;
@@ -98,12 +99,11 @@ fn entries_behind<'a>(
     block: Block<'a>,
     mut seen: SeenPaths<'a>,
 ) -> Result<(), Fault>
-    requires { block.written ≡ blocks.written block.kind block.all.now }
+    requires { block.written.now ≡ blocks.written block.kind block.all.now }
     ensures { Does (blocks.entries_from block.entry.order block.entry.kind block.entry.all.now seen.entry block.entry.all.now (state types.old).known) result (state types.new) }
 {
     for at in 0..block.all.len() {
-        let behind = &block.all[at + 1..];
-        next_entry(types, alloc, block, &mut seen, behind, &block.all[at])?;
+        next_entry(types, alloc, block, &mut seen, &block.all[at])?;
     }
     Ok(())
 }
@@ -114,15 +114,14 @@ fn next_entry<'a>(
     alloc: Global,
     block: Block<'_>,
     seen: &mut SeenPaths<'a>,
-    behind: &[Entry],
     entry: &'a Entry,
 ) -> Result<(), Fault>
-    requires { block.written ≡ blocks.written block.kind block.all.now }
-    ensures step { Does (blocks.entry_of block.entry.order block.entry.kind block.entry.all.now (is_seen (path_of entry.now) seen.old) behind.now entry.now (state types.old).known) result (state types.new) }
+    requires { block.written.now ≡ blocks.written block.kind block.all.now }
+    ensures step { Does (blocks.entry_of block.entry.order block.entry.kind block.entry.all.now (is_seen (path_of entry.now) seen.old) entry.now (state types.old).known) result (state types.new) }
     ensures noted { OnOk result (seen.new ≡ noted (path_of entry.now) seen.old) }
 {
     let stood = seen.note(path_of(entry))?;
-    entry_of(types, alloc, block, stood, behind, entry)
+    entry_of(types, alloc, block, stood, entry)
 }
 
 #[tactic(auto, unfolding(crate::specs::Blocks::entry_of))]
@@ -131,14 +130,13 @@ fn entry_of(
     alloc: Global,
     block: Block<'_>,
     stood: bool,
-    behind: &[Entry],
     entry: &Entry,
 ) -> Result<(), Fault>
-    requires { block.written ≡ blocks.written block.kind block.all.now }
-    ensures { Does (blocks.entry_of block.entry.order block.entry.kind block.entry.all.now stood behind.now entry.now (state types.old).known) result (state types.new) }
+    requires { block.written.now ≡ blocks.written block.kind block.all.now }
+    ensures { Does (blocks.entry_of block.entry.order block.entry.kind block.entry.all.now stood entry.now (state types.old).known) result (state types.new) }
 {
     match entry {
-        Entry::Assign(attr) => assigned_by(types, alloc, block, stood, behind, attr),
+        Entry::Assign(attr) => assigned_by(types, alloc, block, stood, attr),
         Entry::Declare { path, ty } => {
             declared_by(types, alloc, block, stood, path.as_slice(), ty)
         }
@@ -151,15 +149,14 @@ fn assigned_by(
     alloc: Global,
     block: Block<'_>,
     stood: bool,
-    behind: &[Entry],
     attr: &Attr,
 ) -> Result<(), Fault>
-    ensures { Does (blocks.assigned_by block.entry.kind block.entry.all.now stood behind.now attr.now (state types.old).known) result (state types.new) }
+    ensures { Does (blocks.assigned_by block.entry.kind block.entry.all.now stood attr.now (state types.old).known) result (state types.new) }
 {
     let path = attr.path.as_slice();
     let breaks = is_again(block.kind, stood) || scope_given(block.kind, path).is_some();
     needs(!breaks, MetaItemCause::BadAttribute)?;
-    value_of(types, alloc, block.kind, block.all, behind, attr)
+    value_of(types, alloc, block.kind, block.all, attr)
 }
 
 // Whether a path stands again that may stand once.
@@ -181,34 +178,40 @@ fn declared_by(
     path: &[Text],
     tree: &TypeTree,
 ) -> Result<(), Fault>
-    requires { block.written ≡ blocks.written block.kind block.all.now }
+    requires { block.written.now ≡ blocks.written block.kind block.all.now }
     ensures { Does (blocks.declared_by block.entry.order block.entry.kind block.entry.all.now stood path.now tree.now (blocks.scope_given block.entry.kind path.now) (state types.old).known) result (state types.new) }
 {
-    let around = around_entry(block, path);
+    let around = &around_entry(block, path);
+    let place = used_as(types, alloc, around, MAX_BRACES, Use::Alone, tree)?;
+    let again = is_again(block.kind, stood);
     match scope_given(block.kind, path) {
         None => {
-            used_as(types, alloc, around, MAX_BRACES, Use::Name, tree)?;
-            let breaks = is_again(block.kind, stood) || is_value(block.kind, path);
+            let breaks = again || has_value(types, block.kind, path);
             needs(!breaks, MetaItemCause::BadAttribute)
         }
         Some(scope) => {
-            let place = used_as(types, alloc, around, MAX_BRACES, Use::Scope, tree)?;
-            let again = is_again(block.kind, stood);
-            needs(!again, MetaItemCause::BadAttribute)?;
+            let holds = types.is_struct(place) && !again;
+            needs(holds, MetaItemCause::BadAttribute)?;
             types.set_scope(scope, place);
             Ok(())
         }
     }
 }
 
+// Whether an attribute of a block has a value. Behind the first host's name later ones aren't looked at.
+fn has_value(types: &Known, kind: BlockKind, path: &[Text]) -> bool
+    ensures { result ≡ blocks.has_value kind (is_some (state types.now).known.told.hostname) path.now }
+{
+    match kind {
+        BlockKind::Env if types.has_hostname() => false,
+        _ => is_value(kind, path),
+    }
+}
+
 // What stands around a type of an entry.
-fn around_entry(block: Block<'_>, path: &[Text]) -> Around
-    requires { block.written ≡ blocks.written block.kind block.all.now }
+fn around_entry<'a>(block: Block<'a>, path: &[Text]) -> Around<'a>
+    requires { block.written.now ≡ blocks.written block.kind block.all.now }
     ensures { result ≡ blocks.around_entry block.entry.order block.entry.kind block.entry.all.now path.now }
 {
-    Around {
-        order: block.order,
-        reading: scope_given(block.kind, path),
-        written: block.written,
-    }
+    Around::new(block.order, scope_given(block.kind, path), block.written)
 }

@@ -1,6 +1,5 @@
 -- What the attributes in the braces of an integer say, and where they break their rules (CTF 1.8, section 4.1.1; the limits are this project's own).
-use Rattle.std.specs.Prelude.{ℕ, ℤ, pos, Bool, true, false, ◌&&◌, ◌||◌, if◌then◌else◌, nat_le, nat_eq, List, [], ◌∷◌, ◌++◌, Option, Some, None, is_some, option_and_then, position, unwrap_or, codes, ◌%◌, ◌==◌, int_le, neg_ℤ}
-use Rattle.std.specs.Cmp.Lexicographic.{pointwise}
+use Rattle.std.specs.Prelude.{ℕ, ℤ, pos, Bool, false, ◌&&◌, ◌||◌, if◌then◌else◌, nat_le, List, [], ◌∷◌, ◌++◌, Option, Some, None, is_some, option_and_then, option_map, position, unwrap_or, codes, ◌%◌, ◌==◌, int_le, neg_ℤ}
 use Rattle.std.specs.List.{list_any}
 use Rattle.std.specs.Int.{is_power_of_two}
 use Rattle.trace_types.specs.declared.byte_order.ByteOrderKind.{ByteOrderKind}
@@ -9,24 +8,13 @@ use Rattle.tsdl_parser.specs.declared.tree.Attr.{Attr}
 use Rattle.tsdl_parser.specs.declared.tree.AttrValue.{AttrValue}
 use Rattle.tsdl_parser.specs.declared.tree.AttrValue.TheVariants as value
 use Rattle.tsdl_parser.specs.Symbols.{is_text}
+use Rattle.known_types.specs.Said.{is_named, is_signed, is_word, said, same_words, sign_said}
 use Rattle.type_table.specs.declared.cause.MetaItemCause.{MetaItemCause}
 use Rattle.type_table.specs.declared.cause.MetaItemCause.TheVariants.{BadAttribute, BadReference}
 use Rattle.std.specs.Map.{keys_of}
 use Rattle.type_table.specs.declared.integer.Integer.{Integer}
 use Rattle.type_table.specs.declared.told.ClockRate.{ClockRate}
 use Rattle.type_table.specs.Types.{Text}
-
-abbrev pub same_words : List Text → List Text → Bool
-same_words = pointwise is_text
-
--- an attribute of this one word
-abbrev pub is_named : Text → Attr → Bool
-is_named name attr = same_words attr.path (name ∷ [])
-
--- the value is this one word
-abbrev pub is_word : Text → AttrValue → Bool
-is_word word (value.Path words) = same_words words (word ∷ [])
-is_word word _ = false
 
 abbrev pub number_in : ℕ → ℕ → AttrValue → Option ℕ
 number_in low high (value.Signed (pos n)) = if nat_le low n && nat_le n high then Some n else None
@@ -41,14 +29,6 @@ abbrev pub align_said : AttrValue → Option ℕ
 align_said (value.Signed (pos n)) = if is_power_of_two n && nat_le n 65536 then Some n else None
 align_said _ = None
 
--- 0, 1, or a word of either case
-abbrev pub sign_said : AttrValue → Option Bool
-sign_said (value.Signed (pos n)) = if nat_eq n 0 then Some false else if nat_eq n 1 then Some true else None
-sign_said v =
-    if is_word (codes "true") v || is_word (codes "TRUE") v then Some true
-    else if is_word (codes "false") v || is_word (codes "FALSE") v then Some false
-    else None
-
 -- network is big endian, and native is the trace's
 abbrev pub order_said : ByteOrderKind → AttrValue → Option ByteOrderKind
 order_said trace v =
@@ -57,9 +37,33 @@ order_said trace v =
     else if is_word (codes "native") v then Some trace
     else None
 
--- clock.NAME.value, with the clock's place among those that were declared before
+-- words with a dot between them
+abbrev pub dotted_on : List Text → Text
+dotted_on [] = []
+dotted_on (w ∷ ws) = codes "." ++ (w ++ dotted_on ws)
+
+abbrev pub dotted : List Text → Text
+dotted [] = []
+dotted (w ∷ ws) = w ++ dotted_on ws
+
+-- the words before the last, where that is this one
+abbrev pub before_last : Text → List Text → Option (List Text)
+before_last word [] = None
+before_last word (w ∷ []) = if is_text w word then Some [] else None
+before_last word (w ∷ v ∷ ws) = option_map (λ before. w ∷ before) (before_last word (v ∷ ws))
+
+abbrev pub some_words : Option (List Text) → Option (List Text)
+some_words (Some (w ∷ ws)) = Some (w ∷ ws)
+some_words _ = None
+
+-- the words of NAME in clock.NAME.value, of which there is one at least
+abbrev pub clock_words : List Text → Option (List Text)
+clock_words [] = None
+clock_words (w ∷ ws) = if is_text w (codes "clock") then some_words (before_last (codes "value") ws) else None
+
+-- the place of the clock that a value names among those that were declared before
 abbrev pub clock_said : List (Text × ClockRate) → AttrValue → Option ℕ
-clock_said clocks (value.Path (a ∷ name ∷ b ∷ [])) = if is_text a (codes "clock") && is_text b (codes "value") then position (is_text name) (keys_of clocks) else None
+clock_said clocks (value.Path words) = option_and_then (λ name. position (is_text (dotted name)) (keys_of clocks)) (clock_words words)
 clock_said clocks _ = None
 
 -- an id of a stream or an event
@@ -107,15 +111,6 @@ is_seen path paths = list_any (same_words path) paths
 abbrev pub noted : List Text → List (List Text) → List (List Text)
 noted path paths = if is_seen path paths then paths else paths ++ path ∷ []
 
--- the value of the first attribute of this name
-abbrev pub value_named : Text → List Attr → Option AttrValue
-value_named name [] = None
-value_named name (a ∷ attrs) = if is_named name a then Some a.value else value_named name attrs
-
--- what the attribute of this name says, where it stands
-abbrev pub said : {A : Type 0} → (AttrValue → Option A) → Text → List Attr → Option A
-said read name attrs = option_and_then read (value_named name attrs)
-
 abbrev pub or_later : Option MetaItemCause → Option MetaItemCause → Option MetaItemCause
 or_later None later = later
 or_later (Some cause) later = Some cause
@@ -139,7 +134,7 @@ abbrev pub integer_of : ByteOrderKind → List (Text × ClockRate) → List Attr
 integer_of order clocks attrs = record {
   size = unwrap_or (said size_said (codes "size") attrs) 0;
   align = unwrap_or (said align_said (codes "align") attrs) (usual_align (unwrap_or (said size_said (codes "size") attrs) 0));
-  signed = unwrap_or (said sign_said (codes "signed") attrs) false;
+  signed = is_signed attrs;
   order = unwrap_or (said (order_said order) (codes "byte_order") attrs) order;
   clock = said (clock_said clocks) (codes "map") attrs;
 }

@@ -14,7 +14,7 @@ use Rattle.tsdl_parser.specs.declared.tree.EnumBase.TheVariants as base
 use Rattle.tsdl_parser.specs.declared.tree.Label.{Label as LabelTree}
 use Rattle.tsdl_parser.specs.declared.tree.Dim.{Dim}
 use Rattle.tsdl_parser.specs.declared.tree.Dim.TheVariants as dim
-use Rattle.known_types.specs.declared.around.Around.{Around}
+use Rattle.known_types.specs.Around.{Around}
 use Rattle.type_table.specs.declared.cause.MetaItemCause.{MetaItemCause}
 use Rattle.type_table.specs.declared.cause.MetaItemCause.TheVariants.{FloatType, BadAttribute}
 use Rattle.type_table.specs.declared.fault.Fault.{Fault}
@@ -29,6 +29,7 @@ use Rattle.type_table.specs.Names.{spaced}
 use Rattle.type_table.specs.Types.{Text, Ty, Whole, Str, Variant, Array, Sequence, least_bits}
 use Rattle.type_table.specs.Table.{way_or_here}
 use Rattle.known_types.specs.Known.{Known, Step, Good, Bad, ◌>>=◌, ◌>>◌, pure, breaks, needs, sized, opened, entered, with_field, struct_ended, variant_ended, fields_inside, enum_of, new_name, declared, known_as}
+use Rattle.known_types.specs.Ahead.{no_dims}
 use Rattle.known_types.specs.References.{refer, way_said}
 use Rattle.known_types.specs.Rechecked.{rechecked}
 use Rattle.known_types.specs.Uses.{may_be}
@@ -214,10 +215,6 @@ lists a dims ty = lists_on a (reverse dims) ty
 abbrev pub is_struct_tree : TypeTree → Bool
 is_struct_tree (tree.Struct t) = true
 is_struct_tree _ = false
-
-abbrev pub no_dims : List Dim → Bool
-no_dims [] = true
-no_dims (d ∷ ds) = false
 
 unfoldable pub field : Fields → Around → FieldTree → Step (Unit {0})
 field fields a f = do

@@ -16,10 +16,10 @@ use type_table::{Fault, MetaItemCause, NameKind};
 pub fn enum_type(
     types: &mut Known,
     alloc: Global,
-    around: Around,
+    around: &Around<'_>,
     tree: &EnumTree,
 ) -> Result<(u32, bool), Fault>
-    ensures { Gives_too (typing.enum_type around tree.now (state types.old).known) result (state types.new) }
+    ensures { Gives_too (typing.enum_type around.now tree.now (state types.old).known) result (state types.new) }
 {
     match (&tree.labels, &tree.name) {
         (Some(labels), _) => {
@@ -38,11 +38,11 @@ pub fn enum_type(
 fn new_enum(
     types: &mut Known,
     alloc: Global,
-    around: Around,
+    around: &Around<'_>,
     tree: &EnumTree,
     labels: &[Label],
 ) -> Result<u32, Fault>
-    ensures { Gives (typing.new_enum around tree.now.name tree.now.base labels.now (state types.old).known) result (state types.new) }
+    ensures { Gives (typing.new_enum around.now tree.now.name tree.now.base labels.now (state types.old).known) result (state types.new) }
 {
     let base = base_or_int(types, alloc, around, &tree.base)?;
     new_name(types, NameKind::Enum, &tree.name)?;
@@ -58,11 +58,11 @@ fn new_enum(
 fn known_enum(
     types: &mut Known,
     alloc: Global,
-    around: Around,
+    around: &Around<'_>,
     name: &Text,
     base: &Option<EnumBase>,
 ) -> Result<u32, Fault>
-    ensures { Gives (typing.known_enum around name.now base.now (state types.old).known) result (state types.new) }
+    ensures { Gives (typing.known_enum around.now name.now base.now (state types.old).known) result (state types.new) }
 {
     match base {
         None => known_as(types, NameKind::Enum, name),
@@ -81,10 +81,10 @@ fn known_enum(
 fn base_or_int(
     types: &mut Known,
     alloc: Global,
-    around: Around,
+    around: &Around<'_>,
     base: &Option<EnumBase>,
 ) -> Result<u32, Fault>
-    ensures { Gives (typing.base_or_int around base.now (state types.old).known) result (state types.new) }
+    ensures { Gives (typing.base_or_int around.now base.now (state types.old).known) result (state types.new) }
 {
     match base {
         Some(base) => base_type(types, alloc, around, base),
@@ -99,10 +99,10 @@ fn base_or_int(
 fn base_type(
     types: &mut Known,
     alloc: Global,
-    around: Around,
+    around: &Around<'_>,
     base: &EnumBase,
 ) -> Result<u32, Fault>
-    ensures { Gives (typing.base_type around base.now (state types.old).known) result (state types.new) }
+    ensures { Gives (typing.base_type around.now base.now (state types.old).known) result (state types.new) }
 {
     match base {
         EnumBase::Integer(attrs) => integer_type(types, alloc, around, attrs.as_slice()),

@@ -3,11 +3,13 @@ ghost use Rattle.std.specs.Prelude.{◌≡◌, ◌≤◌, ◌<◌, ◌%◌, ◌^
 ghost use Rattle.indexmap.specs.IndexMap.{keys};
 ghost use Rattle.tsdl_parser.specs.Symbols.{is_text};
 ghost use Rattle.type_table.specs.Faults.{OnBreak};
-ghost use Rattle.type_rules.specs.Attributes.{align_said, clock_said, first_fault, integer_fault, integer_of, is_named, is_twice, order_said, own_fault, said, same_words, sign_said, size_said, unless, usual_align, value_named};
+ghost use Rattle.type_rules.specs.Attributes.{align_said, before_last, clock_said, clock_words, first_fault, integer_fault, integer_of, is_twice, order_said, own_fault, size_said, some_words, unless, usual_align};
+ghost use Rattle.known_types.specs.Said.{is_named, said, same_words, sign_said, value_named};
 
 use crate::seen::SeenPaths;
-use crate::values::{align_said, is_only, order_said, sign_said, size_said};
+use crate::values::{align_said, dotted, order_said, size_said};
 use indexmap::IndexMap;
+use known_types::{is_named, is_signed, sign_said, value_named};
 use std::alloc::Global;
 use trace_types::{ByteOrderKind, OutOfMemory, Text};
 use tsdl_parser::{Attr, AttrValue};
@@ -35,9 +37,9 @@ pub fn read_integer(
     Ok(Integer {
         size,
         align: align_in(attrs, size),
-        signed: sign_in(attrs),
+        signed: is_signed(attrs),
         order: order_in(order, attrs),
-        clock: clock_in(clocks, attrs),
+        clock: clock_in(alloc, clocks, attrs)?,
     })
 }
 
@@ -59,15 +61,6 @@ fn align_in(attrs: &[Attr], size: u32) -> u32
     }
 }
 
-fn sign_in(attrs: &[Attr]) -> bool
-    ensures { result ≡ unwrap_or (said sign_said (codes "signed") attrs.now) false }
-{
-    match value_named(attrs, b"signed") {
-        Some(value) => sign_said(value).unwrap_or(false),
-        None => false,
-    }
-}
-
 fn order_in(order: ByteOrderKind, attrs: &[Attr]) -> ByteOrderKind
     ensures { result ≡ unwrap_or (said (order_said order) (codes "byte_order") attrs.now) order }
 {
@@ -77,13 +70,17 @@ fn order_in(order: ByteOrderKind, attrs: &[Attr]) -> ByteOrderKind
     }
 }
 
-fn clock_in(clocks: &IndexMap<Text, ClockRate>, attrs: &[Attr]) -> Option<u32>
+fn clock_in(
+    alloc: Global,
+    clocks: &IndexMap<Text, ClockRate>,
+    attrs: &[Attr],
+) -> Result<Option<u32>, OutOfMemory>
     requires { length (keys clocks.now) < 2 ^ 32 }
-    ensures { result ≡ said (clock_said clocks.now.entries) (codes "map") attrs.now }
+    ensures { IfOk result (λ clock. clock ≡ said (clock_said clocks.now.entries) (codes "map") attrs.now) }
 {
     match value_named(attrs, b"map") {
-        Some(value) => clock_said(clocks, value),
-        None => None,
+        Some(value) => clock_said(alloc, clocks, value),
+        None => Ok(None),
     }
 }
 
@@ -102,7 +99,7 @@ fn first_fault(
         if seen.note(attr.path.as_slice())? {
             return Ok(Some(MetaItemCause::BadAttribute));
         }
-        if let Some(cause) = own_fault(order, clocks, attr) {
+        if let Some(cause) = own_fault(alloc, order, clocks, attr)? {
             return Ok(Some(cause));
         }
     }
@@ -124,15 +121,16 @@ pub fn is_twice(alloc: Global, attrs: &[Attr]) -> Result<bool, OutOfMemory>
 
 // An attribute that breaks its rule by itself.
 fn own_fault(
+    alloc: Global,
     order: ByteOrderKind,
     clocks: &IndexMap<Text, ClockRate>,
     attr: &Attr,
-) -> Option<MetaItemCause>
+) -> Result<Option<MetaItemCause>, OutOfMemory>
     requires { length (keys clocks.now) < 2 ^ 32 }
-    ensures { result ≡ own_fault order clocks.now.entries attr.now }
+    ensures { IfOk result (λ fault. fault ≡ own_fault order clocks.now.entries attr.now) }
 {
     let value = &attr.value;
-    if is_named(attr, b"size") {
+    let cause = if is_named(attr, b"size") {
         unless(size_said(value).is_some(), MetaItemCause::BadAttribute)
     } else if is_named(attr, b"align") {
         unless(align_said(value).is_some(), MetaItemCause::BadAttribute)
@@ -145,12 +143,13 @@ fn own_fault(
         )
     } else if is_named(attr, b"map") {
         unless(
-            clock_said(clocks, value).is_some(),
+            clock_said(alloc, clocks, value)?.is_some(),
             MetaItemCause::BadReference,
         )
     } else {
         None
-    }
+    };
+    Ok(cause)
 }
 
 fn unless(holds: bool, cause: MetaItemCause) -> Option<MetaItemCause>
@@ -159,39 +158,48 @@ fn unless(holds: bool, cause: MetaItemCause) -> Option<MetaItemCause>
     if holds { None } else { Some(cause) }
 }
 
-/// The value of the attribute of this one word.
-pub fn value_named<'a>(attrs: &'a [Attr], name: &[u8]) -> Option<&'a AttrValue>
-    ensures found { IfSome result (λ value. value_named name.now attrs.now ≡ Some value.now) }
-    ensures none { IfNone result (value_named name.now attrs.now ≡ None) }
-{
-    for attr in attrs {
-        if is_named(attr, name) {
-            return Some(&attr.value);
-        }
-    }
-    None
-}
-
-/// Whether an attribute is of this one word.
-pub fn is_named(attr: &Attr, name: &[u8]) -> bool
-    ensures { result ≡ is_named name.now attr.now }
-{
-    is_only(attr.path.as_slice(), name)
-}
-
-// `clock.NAME.value`
-fn clock_said(clocks: &IndexMap<Text, ClockRate>, value: &AttrValue) -> Option<u32>
+// `clock.NAME.value`, where NAME is a word or a path.
+fn clock_said(
+    alloc: Global,
+    clocks: &IndexMap<Text, ClockRate>,
+    value: &AttrValue,
+) -> Result<Option<u32>, OutOfMemory>
     requires { length (keys clocks.now) < 2 ^ 32 }
-    ensures { result ≡ clock_said clocks.now.entries value.now }
+    ensures { IfOk result (λ place. place ≡ clock_said clocks.now.entries value.now) }
 {
     let AttrValue::Path(words) = value else {
+        return Ok(None);
+    };
+    match clock_words(words.as_slice()) {
+        Some(name) => {
+            let name = dotted(alloc, name)?;
+            Ok(clock_place(clocks, &name))
+        }
+        None => Ok(None),
+    }
+}
+
+// The words between `clock` and `value`, of which there is one at least.
+fn clock_words(words: &[Text]) -> Option<&[Text]>
+    ensures found { IfSome result (λ name. clock_words words.now ≡ Some name.now) }
+    ensures none { IfNone result (clock_words words.now ≡ None) }
+{
+    match words {
+        [clock, rest @ ..] if clock.as_bytes() == b"clock".as_slice() => name_words(rest),
+        _ => None,
+    }
+}
+
+// The words before `value`, of which there is one at least.
+fn name_words(words: &[Text]) -> Option<&[Text]>
+    ensures found { IfSome result (λ name. some_words (before_last (codes "value") words.now) ≡ Some name.now) }
+    ensures none { IfNone result (some_words (before_last (codes "value") words.now) ≡ None) }
+{
+    let [name @ .., value] = words else {
         return None;
     };
-    let [clock, name, value] = words.as_slice() else {
-        return None;
-    };
-    if clock.as_bytes() == b"clock".as_slice() && value.as_bytes() == b"value".as_slice() {
-        clock_place(clocks, name)
+    if value.as_bytes() == b"value".as_slice() && !name.is_empty() {
+        Some(name)
     } else {
         None
     }

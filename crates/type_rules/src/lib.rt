@@ -10,8 +10,7 @@ mod typing;
 mod values;
 
 pub use enums::enum_type;
-pub use integer::is_named;
 pub use seen::SeenPaths;
 pub use types::{struct_type, used_as, variant_type};
 pub use typing::{declare, new_name};
-pub use values::{freq_said, id_said, is_only, is_version, offset_said, trace_order_said};
+pub use values::{dotted, freq_said, id_said, is_version, offset_said, trace_order_said};

@@ -17,12 +17,12 @@ pub const MAX_ITEMS: u64 = 1_048_576;
 pub fn lists(
     types: &mut Known,
     alloc: Global,
-    around: Around,
+    around: &Around<'_>,
     dims: &[Dim],
     place: u32,
 ) -> Result<u32, Fault>
     requires { place < length (state types.old).types }
-    ensures { Gives (typing.lists around dims.now (tree_at (state types.old).types place) (state types.old).known) result (state types.new) }
+    ensures { Gives (typing.lists around.now dims.now (tree_at (state types.old).types place) (state types.old).known) result (state types.new) }
 {
     let [outer @ .., last] = dims else {
         return Ok(place);
@@ -36,12 +36,12 @@ pub fn lists(
 fn list_of(
     types: &mut Known,
     alloc: Global,
-    around: Around,
+    around: &Around<'_>,
     dim: &Dim,
     item: u32,
 ) -> Result<u32, Fault>
     requires { item < length (state types.old).types }
-    ensures { Gives (typing.list_of around dim.now (tree_at (state types.old).types item) (state types.old).known) result (state types.new) }
+    ensures { Gives (typing.list_of around.now dim.now (tree_at (state types.old).types item) (state types.old).known) result (state types.new) }
 {
     if types.may_be_empty(item) {
         return Err(Fault::Breaks(MetaItemCause::BadAttribute));

@@ -25,12 +25,12 @@ use type_table::{Fault, MetaItemCause, NameKind};
 pub fn used_as(
     types: &mut Known,
     alloc: Global,
-    around: Around,
+    around: &Around<'_>,
     depth: u32,
     role: Use,
     tree: &TypeTree,
 ) -> Result<u32, Fault>
-    ensures { Gives (typing.used_as (typing.fields_within depth around) around role tree.now (state types.old).known) result (state types.new) }
+    ensures { Gives (typing.used_as (typing.fields_within depth around.now) around.now role tree.now (state types.old).known) result (state types.new) }
 {
     let (place, is_known) = type_of(types, alloc, around, depth, tree)?;
     if !types.may_be(role, place) {
@@ -48,11 +48,11 @@ pub fn used_as(
 fn type_of(
     types: &mut Known,
     alloc: Global,
-    around: Around,
+    around: &Around<'_>,
     depth: u32,
     tree: &TypeTree,
 ) -> Result<(u32, bool), Fault>
-    ensures { Gives_too (typing.type_of (typing.fields_within depth around) around tree.now (state types.old).known) result (state types.new) }
+    ensures { Gives_too (typing.type_of (typing.fields_within depth around.now) around.now tree.now (state types.old).known) result (state types.new) }
 {
     match tree {
         TypeTree::Integer(attrs) => {
@@ -80,11 +80,11 @@ fn type_of(
 pub fn struct_type(
     types: &mut Known,
     alloc: Global,
-    around: Around,
+    around: &Around<'_>,
     depth: u32,
     tree: &StructTree,
 ) -> Result<(u32, bool), Fault>
-    ensures { Gives_too (typing.struct_type (typing.fields_within depth around) tree.now (state types.old).known) result (state types.new) }
+    ensures { Gives_too (typing.struct_type (typing.fields_within depth around.now) tree.now (state types.old).known) result (state types.new) }
 {
     match (&tree.body, &tree.name) {
         (Some(body), name) => {
@@ -104,12 +104,12 @@ pub fn struct_type(
 fn new_struct(
     types: &mut Known,
     alloc: Global,
-    around: Around,
+    around: &Around<'_>,
     depth: u32,
     name: &Option<Text>,
     body: &StructBody,
 ) -> Result<u32, Fault>
-    ensures { Gives (typing.new_struct (typing.fields_within depth around) name.now (out-StructBody body.now).fields (out-StructBody body.now).align (state types.old).known) result (state types.new) }
+    ensures { Gives (typing.new_struct (typing.fields_within depth around.now) name.now (out-StructBody body.now).fields (out-StructBody body.now).align (state types.old).known) result (state types.new) }
 {
     types.open(alloc, true)?;
     fields(types, alloc, around, depth, body.fields.as_slice())?;
@@ -137,11 +137,11 @@ fn align_said(align: Option<u64>) -> Result<u32, Fault>
 pub fn variant_type(
     types: &mut Known,
     alloc: Global,
-    around: Around,
+    around: &Around<'_>,
     depth: u32,
     tree: &VariantTree,
 ) -> Result<(u32, bool), Fault>
-    ensures { Gives_too (typing.variant_type (typing.fields_within depth around) around tree.now (state types.old).known) result (state types.new) }
+    ensures { Gives_too (typing.variant_type (typing.fields_within depth around.now) around.now tree.now (state types.old).known) result (state types.new) }
 {
     match (&tree.body, &tree.name) {
         (Some(body), _) => {
@@ -162,12 +162,12 @@ pub fn variant_type(
 fn new_variant(
     types: &mut Known,
     alloc: Global,
-    around: Around,
+    around: &Around<'_>,
     depth: u32,
     tree: &VariantTree,
     body: &[FieldTree],
 ) -> Result<u32, Fault>
-    ensures { Gives (typing.new_variant (typing.fields_within depth around) around (out-VariantTree tree.now).name (out-VariantTree tree.now).tag body.now (state types.old).known) result (state types.new) }
+    ensures { Gives (typing.new_variant (typing.fields_within depth around.now) around.now (out-VariantTree tree.now).name (out-VariantTree tree.now).tag body.now (state types.old).known) result (state types.new) }
 {
     types.open(alloc, false)?;
     fields(types, alloc, around, depth, body)?;
@@ -181,12 +181,12 @@ fn new_variant(
 fn tagged(
     types: &mut Known,
     alloc: Global,
-    around: Around,
+    around: &Around<'_>,
     tag: &Option<Items<Text>>,
     place: u32,
 ) -> Result<u32, Fault>
     requires { place < length (state types.old).types }
-    ensures { Gives (typing.tagged around tag.now (tree_at (state types.old).types place) (state types.old).known) result (state types.new) }
+    ensures { Gives (typing.tagged around.now tag.now (tree_at (state types.old).types place) (state types.old).known) result (state types.new) }
 {
     let Some(words) = tag else {
         return Ok(place);
@@ -218,11 +218,11 @@ fn retagged(
 fn fields(
     types: &mut Known,
     alloc: Global,
-    around: Around,
+    around: &Around<'_>,
     depth: u32,
     body: &[FieldTree],
 ) -> Result<(), Fault>
-    ensures { Does (typing.fields_within depth around body.now (state types.old).known) result (state types.new) }
+    ensures { Does (typing.fields_within depth around.now body.now (state types.old).known) result (state types.new) }
 {
     if depth == 0 {
         return Err(Fault::Breaks(MetaItemCause::BadAttribute));
@@ -238,11 +238,11 @@ fn fields(
 fn field(
     types: &mut Known,
     alloc: Global,
-    around: Around,
+    around: &Around<'_>,
     depth: u32,
     tree: &FieldTree,
 ) -> Result<(), Fault>
-    ensures { Does (typing.field (typing.fields_within depth around) around tree.now (state types.old).known) result (state types.new) }
+    ensures { Does (typing.field (typing.fields_within depth around.now) around.now tree.now (state types.old).known) result (state types.new) }
 {
     let is_struct = matches!(tree.ty, TypeTree::Struct(_)) && tree.dims.is_empty();
     types.enter(alloc, &tree.name, is_struct)?;

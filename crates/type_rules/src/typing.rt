@@ -18,12 +18,12 @@ use type_table::{Fault, MetaItemCause, NameKind, spaced};
 pub fn integer_type(
     types: &mut Known,
     alloc: Global,
-    around: Around,
+    around: &Around<'_>,
     attrs: &[Attr],
 ) -> Result<u32, Fault>
-    ensures { Gives (typing.integer_type around attrs.now (state types.old).known) result (state types.new) }
+    ensures { Gives (typing.integer_type around.now attrs.now (state types.old).known) result (state types.new) }
 {
-    let integer = read_integer(alloc, around.order, types.clocks(), attrs)?;
+    let integer = read_integer(alloc, around.order(), types.clocks(), attrs)?;
     types.add_integer(integer)
 }
 

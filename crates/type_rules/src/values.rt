@@ -1,11 +1,13 @@
 //! What the values of attributes say.
-ghost use Rattle.std.specs.Prelude.{◌≡◌, ◌≤◌, ◌%◌, ◌&&◌, true, nat_le, ℕ, List, ◌∷◌, [], IfSome};
+ghost use Rattle.std.specs.Prelude.{◌≡◌, ◌≤◌, ◌%◌, ◌&&◌, true, nat_le, ℕ, List, ◌∷◌, [], IfOk, IfSome};
 ghost use Rattle.std.specs.Int.{is_power_of_two};
-ghost use Rattle.type_rules.specs.Attributes.{align_said, freq_said, id_said, is_version, is_word, number_in, offset_said, order_said, same_words, sign_said, size_said, trace_order_said};
+ghost use Rattle.type_rules.specs.Attributes.{align_said, dotted, freq_said, id_said, is_version, number_in, offset_said, order_said, size_said, trace_order_said};
+ghost use Rattle.known_types.specs.Said.{is_word, same_words, sign_said};
 ghost use Rattle.type_table.specs.ToldKept.{IsOffset};
 
-use known_types::{HIGHEST, LOWEST};
-use trace_types::{ByteOrderKind, Text};
+use known_types::{HIGHEST, LOWEST, is_word};
+use std::alloc::Global;
+use trace_types::{ByteOrderKind, OutOfMemory, Text};
 use tsdl_parser::AttrValue;
 
 /// A size of 1 to 64 bits.
@@ -32,19 +34,6 @@ pub fn is_align(align: u64) -> bool
     ensures aligns { result ≡ true → (1 ≤ align) × (65536 % align ≡ 0) }
 {
     align.is_power_of_two() && align <= 65_536
-}
-
-/// Whether integers have a sign: 0, 1, or a word of either case.
-pub fn sign_said(value: &AttrValue) -> Option<bool>
-    ensures { result ≡ sign_said value.now }
-{
-    match value {
-        AttrValue::Signed(0) => Some(false),
-        AttrValue::Signed(1) => Some(true),
-        _ if is_word(value, b"true") || is_word(value, b"TRUE") => Some(true),
-        _ if is_word(value, b"false") || is_word(value, b"FALSE") => Some(false),
-        _ => None,
-    }
 }
 
 /// A byte order. The trace's own is `native`.
@@ -120,21 +109,17 @@ fn number_in(value: &AttrValue, low: u64, high: u64) -> Option<u64>
     (low <= number && number <= high).then_some(number)
 }
 
-fn is_word(value: &AttrValue, word: &[u8]) -> bool
-    ensures { result ≡ is_word word.now value.now }
+/// Words with a dot between them.
+pub fn dotted(alloc: Global, words: &[Text]) -> Result<Text, OutOfMemory>
+    ensures { IfOk result (λ name. name ≡ dotted words.now) }
 {
-    match value {
-        AttrValue::Path(words) => is_only(words.as_slice(), word),
-        _ => false,
+    let mut name = Vec::new(alloc);
+    if let [first, rest @ ..] = words {
+        name.extend_from_slice(first.as_bytes())?;
+        for word in rest {
+            name.push(b'.')?;
+            name.extend_from_slice(word.as_bytes())?;
+        }
     }
-}
-
-/// Whether the path is this one word.
-pub fn is_only(words: &[Text], word: &[u8]) -> bool
-    ensures { result ≡ same_words words.now (word.now ∷ []) }
-{
-    match words {
-        [only] => only.as_bytes() == word,
-        _ => false,
-    }
+    Text::from_bytes(alloc, name.as_slice())
 }

@@ -2,7 +2,7 @@
 ghost use Rattle.std.specs.Prelude.{◌≡◌, ◌<◌, length, nat_eq, List};
 ghost use Rattle.type_table.specs.Table.{shape, tree_at};
 ghost use Rattle.type_table.specs.Types.{Text, Ty, least_bits};
-ghost use Rattle.known_types.specs.Uses.{is_loose, is_whole, may_be};
+ghost use Rattle.known_types.specs.Uses.{is_loose, is_struct, is_whole, may_be};
 ghost use Rattle.known_types.specs.View.{state};
 
 use crate::known::Known;
@@ -28,6 +28,15 @@ impl Known {
         matches!(self.table.get(place), TypeMeta::Integer { .. })
     }
 
+    /// Whether it is a structure.
+    #[tactic(auto, unfolding(crate::specs::View::state))]
+    pub fn is_struct(&self, place: u32) -> bool
+        requires { place < length (state self.now).types }
+        ensures { result ≡ is_struct (tree_at (state self.now).types place) }
+    {
+        matches!(self.table.get(place), TypeMeta::Struct { .. })
+    }
+
     /// Whether a type may be used so.
     #[tactic(auto, unfolding(crate::specs::View::state))]
     pub fn may_be(&self, role: Use, place: u32) -> bool
@@ -35,8 +44,7 @@ impl Known {
         ensures { result ≡ may_be role (tree_at (state self.now).types place) }
     {
         match role {
-            Use::Name => true,
-            Use::Scope => matches!(self.table.get(place), TypeMeta::Struct { .. }),
+            Use::Alone => true,
             Use::Field => !is_loose(self.table.get(place)),
         }
     }

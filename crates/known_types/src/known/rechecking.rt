@@ -15,18 +15,18 @@ use type_table::{Fault, FieldMeta, Reference, TypeMeta};
 
 impl Known {
     /// Looks at the ways in a type that was declared before, from here.
-    pub fn recheck(&mut self, alloc: Global, around: Around, place: u32) -> Result<(), Fault>
+    pub fn recheck(&mut self, alloc: Global, around: &Around<'_>, place: u32) -> Result<(), Fault>
         requires { place < length (state self.old).types }
-        ensures step { Does (rechecked around (tree_at (state self.old).types place) (state self.old).known) result (state self.new) }
+        ensures step { Does (rechecked around.now (tree_at (state self.old).types place) (state self.old).known) result (state self.new) }
         ensures types { OnOk result ((state self.new).types ≡ (state self.old).types) }
     {
         self.recheck_at(alloc, around, place)
     }
 
     #[cycle(recheck)]
-    fn recheck_at(&mut self, alloc: Global, around: Around, place: u32) -> Result<(), Fault>
+    fn recheck_at(&mut self, alloc: Global, around: &Around<'_>, place: u32) -> Result<(), Fault>
         requires { place < length self.old.table.types }
-        ensures step { Does (rechecked around (tree self.old.table place) (state self.old).known) result (state self.new) }
+        ensures step { Does (rechecked around.now (tree self.old.table place) (state self.old).known) result (state self.new) }
         ensures table { OnOk result (self.new.table ≡ self.old.table) }
     {
         match self.table.get(place) {
@@ -39,7 +39,7 @@ impl Known {
                 let fields = Items::from_slice(alloc, fields.as_slice())?;
                 let tag = copied(alloc, tag)?;
                 self.recheck_inside(alloc, around, false, place, fields)?;
-                self.pass_tag(around, tag)
+                self.pass_tag(alloc, around, tag)
             }
             TypeMeta::Array { item, .. } => {
                 let item = *item;
@@ -49,7 +49,7 @@ impl Known {
                 let length = copied(alloc, length)?;
                 let item = *item;
                 self.recheck_at(alloc, around, item)?;
-                let judgement = self.judge_way(around, Want::Length, &length);
+                let judgement = self.judge_way(alloc, around, Want::Length, &length)?;
                 self.settle(judgement, Want::Length, length)
             }
         }
@@ -60,7 +60,7 @@ impl Known {
     fn recheck_inside(
         &mut self,
         alloc: Global,
-        around: Around,
+        around: &Around<'_>,
         is_struct: bool,
         above: u32,
         fields: Items<FieldMeta>,
@@ -68,7 +68,7 @@ impl Known {
         requires above { above ≤ length self.old.table.types }
         requires types { FieldsIn above fields }
         requires names { FieldNamesIn (length self.old.table.names) fields }
-        ensures step { Does (rechecked_inside around is_struct (fields_at self.old.table.names (trees self.old.table) fields) (state self.old).known) result (state self.new) }
+        ensures step { Does (rechecked_inside around.now is_struct (fields_at self.old.table.names (trees self.old.table) fields) (state self.old).known) result (state self.new) }
         ensures table { OnOk result (self.new.table ≡ self.old.table) }
     {
         self.open(alloc, is_struct)?;
@@ -81,14 +81,14 @@ impl Known {
     fn recheck_all(
         &mut self,
         alloc: Global,
-        around: Around,
+        around: &Around<'_>,
         above: u32,
         fields: &[FieldMeta],
     ) -> Result<(), Fault>
         requires above { above ≤ length self.old.table.types }
         requires types { FieldsIn above fields.now }
         requires names { FieldNamesIn (length self.old.table.names) fields.now }
-        ensures step { Does (rechecked_all around (fields_at self.old.table.names (trees self.old.table) fields.now) (state self.old).known) result (state self.new) }
+        ensures step { Does (rechecked_all around.now (fields_at self.old.table.names (trees self.old.table) fields.now) (state self.old).known) result (state self.new) }
         ensures table { OnOk result (self.new.table ≡ self.old.table) }
     {
         for field in fields {
@@ -101,14 +101,14 @@ impl Known {
     fn recheck_field(
         &mut self,
         alloc: Global,
-        around: Around,
+        around: &Around<'_>,
         above: u32,
         field: FieldMeta,
     ) -> Result<(), Fault>
         requires above { above ≤ length self.old.table.types }
         requires there { field.ty < above }
         requires name { field.name < length self.old.table.names }
-        ensures step { Does (rechecked_field around (name_at self.old.table.names field.name) (tree self.old.table field.ty) (state self.old).known) result (state self.new) }
+        ensures step { Does (rechecked_field around.now (name_at self.old.table.names field.name) (tree self.old.table field.ty) (state self.old).known) result (state self.new) }
         ensures table { OnOk result (self.new.table ≡ self.old.table) }
     {
         let is_struct = matches!(self.table.get(field.ty), TypeMeta::Struct { .. });
@@ -118,15 +118,15 @@ impl Known {
     }
 
     // The way to a variant's tag, if it has one.
-    fn pass_tag(&mut self, around: Around, tag: Reference) -> Result<(), Fault>
+    fn pass_tag(&mut self, alloc: Global, around: &Around<'_>, tag: Reference) -> Result<(), Fault>
         requires { AreBelow (length self.old.table.names) tag.words }
-        ensures step { Does (passed around wants.Tag (way_of self.old.table.names tag) (state self.old).known) result (state self.new) }
+        ensures step { Does (passed around.now wants.Tag (way_of self.old.table.names tag) (state self.old).known) result (state self.new) }
         ensures table { OnOk result (self.new.table ≡ self.old.table) }
     {
         match (tag.scope, tag.words.as_slice()) {
             (None, []) => Ok(()),
             _ => {
-                let judgement = self.judge_way(around, Want::Tag, &tag);
+                let judgement = self.judge_way(alloc, around, Want::Tag, &tag)?;
                 self.settle(judgement, Want::Tag, tag)
             }
         }

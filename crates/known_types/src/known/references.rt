@@ -1,15 +1,14 @@
 //! Where the ways of tags and lengths lead.
 ghost use Rattle.std.specs.Prelude.{◌≡◌, ◌<◌, None, Some, length, map, option_map, reverse, IfNone, IfOk, IfSome};
-ghost use Rattle.known_types.specs.Known.{scope_type};
-ghost use Rattle.known_types.specs.References.{follow, from_inside, from_outside, in_frame, is_inner, is_written, judge, judge_earlier, judge_here, member, nearest, rank, suits, suits_if_any, verdict, all_lead, leads};
+ghost use Rattle.known_types.specs.References.{all_lead, from_inside, from_outside, in_frame, is_inner, judge_here, leads, nearest, rank, verdict};
+ghost use Rattle.known_types.specs.Following.{follow, member, suits, suits_if_any};
 ghost use Rattle.type_table.specs.Table.{AreBelow, FieldNamesIn, FieldsIn, name_at, tree, trees};
 ghost use Rattle.known_types.specs.View.{FrameIn, FramesIn, ScopesIn, frame_at, read_at, scopes_at, LaterIn, LatersIn, later_at};
 ghost use Rattle.type_table.specs.ToldKept.{IfHere};
 
-use crate::around::{Around, Written};
 use crate::known::{Frame, Later, ScopePlaces};
 use crate::way::{Judgement, Want};
-use type_table::{FieldMeta, Reference, ScopeName, Table, TypeMeta, is_same_name};
+use type_table::{FieldMeta, ScopeName, Table, TypeMeta, is_same_name};
 
 // Whether a tag or a length may be of this type.
 fn suits(table: &Table, want: Want, place: u32) -> bool
@@ -113,7 +112,9 @@ fn from_outside(table: &Table, frames: &[Frame], names: &[u32]) -> Option<u32>
     let [name, rest @ ..] = names else {
         return None;
     };
-    if is_inner(table, *name, frame.inner) {
+    if !frame.is_struct {
+        None
+    } else if is_inner(table, *name, frame.inner) {
         from_outside(table, inner, rest)
     } else {
         let place = nearest(table, *name, frame.fields.as_slice());
@@ -144,37 +145,8 @@ fn verdict(table: &Table, want: Want, place: Option<u32>) -> Judgement
     }
 }
 
-/// What is said of a way where these frames are being read and these scopes can be.
-#[tactic(auto, using(crate::proofs::Inside::outermost_first))]
-pub fn judge(
-    table: &Table,
-    around: Around,
-    frames: &[Frame],
-    scopes: ScopePlaces,
-    want: Want,
-    way: &Reference,
-) -> Judgement
-    requires frames { FramesIn table.now frames.now }
-    requires scopes { ScopesIn table.now scopes }
-    requires way { AreBelow (length table.now.names) way.now.words }
-    ensures { result ≡ judge around (map (frame_at table.now) (reverse frames.now)) (scopes_at table.now scopes) want way.now.scope (map (name_at table.now.names) way.now.words) }
-{
-    match (way.scope, around.reading) {
-        (None, _) => judge_here(table, frames, want, way.words.as_slice()),
-        (Some(_), None) => Judgement::Breaks,
-        (Some(scope), Some(reading)) if rank(scope) == rank(reading) => {
-            let place = from_outside(table, frames, way.words.as_slice());
-            verdict(table, want, place)
-        }
-        (Some(scope), Some(reading)) if rank(scope) < rank(reading) => {
-            judge_earlier(table, around, scopes, want, scope, way.words.as_slice())
-        }
-        _ => Judgement::Breaks,
-    }
-}
-
-// A way that begins in the innermost structure.
-fn judge_here(table: &Table, frames: &[Frame], want: Want, names: &[u32]) -> Judgement
+/// A way that begins in the innermost structure.
+pub fn judge_here(table: &Table, frames: &[Frame], want: Want, names: &[u32]) -> Judgement
     requires frames { FramesIn table.now frames.now }
     requires names { AreBelow (length table.now.names) names.now }
     ensures { result ≡ judge_here (map (frame_at table.now) (reverse frames.now)) want (map (name_at table.now.names) names.now) }
@@ -185,27 +157,30 @@ fn judge_here(table: &Table, frames: &[Frame], want: Want, names: &[u32]) -> Jud
     }
 }
 
-// A way into a scope that is read before.
-fn judge_earlier(
-    table: &Table,
-    around: Around,
-    scopes: ScopePlaces,
-    want: Want,
-    scope: ScopeName,
-    names: &[u32],
-) -> Judgement
-    requires scopes { ScopesIn table.now scopes }
+/// A way into the scope that is being read, which begins at its outermost structure.
+#[tactic(auto, using(crate::proofs::Inside::outermost_first))]
+pub fn judge_reading(table: &Table, frames: &[Frame], want: Want, names: &[u32]) -> Judgement
+    requires frames { FramesIn table.now frames.now }
     requires names { AreBelow (length table.now.names) names.now }
-    ensures { result ≡ judge_earlier around want scope (map (name_at table.now.names) names.now) (scope_type scope (scopes_at table.now scopes)) }
+    ensures { result ≡ verdict (suits_if_any want (from_outside (reverse (map (frame_at table.now) (reverse frames.now))) (map (name_at table.now.names) names.now))) }
 {
-    match scopes.of(scope) {
-        Some(place) => verdict(table, want, follow(table, Some(place), names)),
-        None if is_written(around.written, scope) => Judgement::Waits,
-        None => Judgement::Breaks,
+    verdict(table, want, from_outside(table, frames, names))
+}
+
+/// Whether a way from a type that is there leads to what it may lead to.
+pub fn leads_from(table: &Table, want: Want, place: u32, names: &[u32]) -> bool
+    requires place { place < length table.now.types }
+    requires names { AreBelow (length table.now.names) names.now }
+    ensures { result ≡ suits_if_any want (follow (Some (tree table.now place)) (map (name_at table.now.names) names.now)) }
+{
+    match follow(table, Some(place), names) {
+        Some(place) => suits(table, want, place),
+        None => false,
     }
 }
 
-fn rank(scope: ScopeName) -> u8
+/// The place of a scope in the order in which they are read.
+pub fn rank(scope: ScopeName) -> u8
     ensures { result ≡ rank scope }
 {
     match scope {
@@ -215,19 +190,6 @@ fn rank(scope: ScopeName) -> u8
         ScopeName::StreamContext => 3,
         ScopeName::EventContext => 4,
         ScopeName::EventFields => 5,
-    }
-}
-
-fn is_written(written: Written, scope: ScopeName) -> bool
-    ensures { result ≡ is_written scope written }
-{
-    match scope {
-        ScopeName::PacketHeader => written.packet_header,
-        ScopeName::PacketContext => written.packet_context,
-        ScopeName::EventHeader => written.event_header,
-        ScopeName::StreamContext => written.stream_context,
-        ScopeName::EventContext => written.event_context,
-        ScopeName::EventFields => written.event_fields,
     }
 }
 

@@ -1,51 +1,89 @@
 //! Types with ways to their tags and lengths, and the ways themselves.
 ghost use Rattle.std.specs.Prelude.{◌≡◌, ◌<◌, length, map, IfOk, OnOk};
-ghost use Rattle.known_types.specs.Known.{Does, Gives, fields_inside, sized};
-ghost use Rattle.known_types.specs.References.{judge, refer, settled, way_said};
+ghost use Rattle.known_types.specs.Known.{Does, Gives, fields_inside, scope_type, sized};
+ghost use Rattle.known_types.specs.References.{judge, judge_earlier, refer, settled, way_said};
 ghost use Rattle.type_table.specs.Table.{AreBelow, FieldNamesIn, FieldsIn, fields_at, name_at, tree_at, trees, way_or_here};
 ghost use Rattle.type_table.specs.Types.{Sequence, Variant};
 ghost use Rattle.known_types.specs.View.{state};
 
 use crate::around::Around;
-use crate::known::references::judge;
+use crate::known::references::{judge_here, judge_reading, leads_from, rank};
 use crate::known::{Known, Later};
 use crate::way::{Judgement, Want};
 use sqlite_items::Items;
 use std::alloc::{AllocError, Global};
-use trace_types::Text;
-use type_table::{Fault, FieldMeta, MetaItemCause, Reference, TypeMeta};
+use trace_types::{OutOfMemory, Text};
+use type_table::{Fault, FieldMeta, MetaItemCause, Reference, ScopeName, TypeMeta};
 
 impl Known {
     /// Notes a way from here, which leads to what it may lead to, or which the end of the block decides on.
     pub fn refer(
         &mut self,
         alloc: Global,
-        around: Around,
+        around: &Around<'_>,
         want: Want,
         words: &[Text],
     ) -> Result<(), Fault>
-        ensures step { Does (refer around want words.now (state self.old).known) result (state self.new) }
+        ensures step { Does (refer around.now want words.now (state self.old).known) result (state self.new) }
         ensures types { OnOk result ((state self.new).types ≡ (state self.old).types) }
     {
         let way = self.reference(alloc, words)?;
-        let judgement = self.judge_way(around, want, &way);
+        let judgement = self.judge_way(alloc, around, want, &way)?;
         self.settle(judgement, want, way)
     }
 
     /// What is said of a way from here.
     #[tactic(auto, unfolding(crate::specs::View::state))]
-    pub fn judge_way(&self, around: Around, want: Want, way: &Reference) -> Judgement
+    pub fn judge_way(
+        &self,
+        alloc: Global,
+        around: &Around<'_>,
+        want: Want,
+        way: &Reference,
+    ) -> Result<Judgement, OutOfMemory>
         requires { AreBelow (length self.now.table.names) way.now.words }
-        ensures { result ≡ judge around (state self.now).known.frames (state self.now).known.scopes want way.now.scope (map (name_at self.now.table.names) way.now.words) }
+        ensures { IfOk result (λ said. said ≡ judge around.now (state self.now).known want way.now.scope (map (name_at self.now.table.names) way.now.words)) }
     {
-        judge(
-            &self.table,
-            around,
-            self.frames.as_slice(),
-            self.scopes,
-            want,
-            way,
-        )
+        let names = way.words.as_slice();
+        match (way.scope, around.reading()) {
+            (None, _) => Ok(judge_here(&self.table, self.frames.as_slice(), want, names)),
+            (Some(scope), Some(reading)) if rank(scope) == rank(reading) => {
+                Ok(judge_reading(&self.table, self.frames.as_slice(), want, names))
+            }
+            (Some(scope), Some(reading)) if rank(scope) < rank(reading) => {
+                self.judge_earlier(alloc, around, want, scope, names)
+            }
+            _ => Ok(Judgement::Breaks),
+        }
+    }
+
+    // A way into a scope that is read before.
+    #[tactic(auto, unfolding(crate::specs::View::state))]
+    fn judge_earlier(
+        &self,
+        alloc: Global,
+        around: &Around<'_>,
+        want: Want,
+        scope: ScopeName,
+        names: &[u32],
+    ) -> Result<Judgement, OutOfMemory>
+        requires { AreBelow (length self.now.table.names) names.now }
+        ensures { IfOk result (λ said. said ≡ judge_earlier around.now (state self.now).known want scope (map (name_at self.now.table.names) names.now) (scope_type scope (state self.now).known.scopes)) }
+    {
+        match (self.scopes.of(scope), around.tree_of(scope)) {
+            (Some(place), _) if leads_from(&self.table, want, place, names) => {
+                Ok(Judgement::Holds)
+            }
+            (None, Some(tree)) => {
+                let leads = self.may_lead(alloc, want, names, tree)?;
+                Ok(if leads {
+                    Judgement::Waits
+                } else {
+                    Judgement::Breaks
+                })
+            }
+            _ => Ok(Judgement::Breaks),
+        }
     }
 
     /// Refuses a way that breaks, and keeps one that waits.

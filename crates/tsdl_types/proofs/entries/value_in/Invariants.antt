@@ -1,5 +1,5 @@
 use Rattle.std.proofs.Common.{◌≡◌, drop}
-use Rattle.type_rules.specs.Attributes.{value_named}
+use Rattle.known_types.specs.Said.{value_named}
 use Rattle.tsdl_types.specs.Blocks.{attrs_in}
 use Rattle.tsdl_types.proofs.entries.value_in.Given as goal
 

@@ -6,8 +6,3 @@ pub get-requires : goal.get-requires
 get-requires c =
     let there = type_there c.args.self.now c.args.place c.requires in
     search rules
-
-pub get-requires-in-Field : goal.get-requires-in-Field
-get-requires-in-Field c =
-    let there = type_there c.args.self.now c.args.place c.requires in
-    search rules

@@ -1,5 +1,5 @@
 use Rattle.std.proofs.Common.{◌≡◌, ◌<◌, IfSome, length, drop, map, option_map}
-use Rattle.known_types.specs.References.{follow}
+use Rattle.known_types.specs.Following.{follow}
 use Rattle.type_table.specs.Table.{AreBelow, name_at, tree}
 use Rattle.known_types.proofs.known.references.follow.Given as goal
 
