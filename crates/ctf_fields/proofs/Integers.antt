@@ -16,13 +16,13 @@ use Rattle.ctf_fields.specs.declared.field.Field.TheVariants as field
 use Rattle.ctf_fields.proofs.Steps.{one_deeper}
 
 -- the integer of a type that is known
-type_number : Table → Option TypeMeta → Option Integer
+abbrev pub type_number : Table → Option TypeMeta → Option Integer
 type_number t (Some (meta.Enum base labels)) = integer_of (slice_get t.types base)
 type_number t other = integer_of other
 
 by_type : (inner : Inner) (from : From) (name : Option ℕ) (ty : ℕ) (m : Option TypeMeta) (i : Integer) (around : List Around) (at : ℕ) → type_number from.table m ≡ Some i
     → read_by inner from name ty m around at ≡ read_number from ty (Some i) at
-unfolding read_by type_number
+unfolding read_by
 by_type inner from name ty None i around at e = absurd (cc)
 by_type inner from name ty (Some (meta.Integer size align signed order clock)) i around at e = ap (λ o. read_number from ty o at) e
 by_type inner from name ty (Some (meta.Enum base labels)) i around at e = ap (λ o. read_number from ty o at) e
@@ -32,8 +32,7 @@ by_type inner from name ty (Some (meta.Variant tag fs)) i around at e = absurd (
 by_type inner from name ty (Some (meta.Array count item)) i around at e = absurd (cc)
 by_type inner from name ty (Some (meta.Sequence count item)) i around at e = absurd (cc)
 
-same_type : (t : Table) (ty : ℕ) (m : Option TypeMeta) → slice_get t.types ty ≡ m → integer_type t ty ≡ type_number t m
-unfolding type_number
+pub same_type : (t : Table) (ty : ℕ) (m : Option TypeMeta) → slice_get t.types ty ≡ m → integer_type t ty ≡ type_number t m
 same_type t ty m e = ap (type_number t) e
 
 deep : (d e : ℕ) (from : From) (name : Option ℕ) (ty : ℕ) (i : Integer) (around : List Around) (at : ℕ) → d ≡ suc e → integer_type from.table ty ≡ Some i → read d from name ty around at ≡ read_number from ty (Some i) at

@@ -1,6 +1,10 @@
+pub mod Alike
+pub mod AlikeFields
+pub mod AlikeReading
 pub mod Chosen
 pub mod Integers
 pub mod Nearest
 pub mod Places
+pub mod SameTypes
 pub mod Steps
 pub mod Zeros

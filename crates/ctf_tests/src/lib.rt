@@ -6,6 +6,8 @@ mod bits;
 #[cfg(test)]
 mod leaf_fields;
 #[cfg(test)]
+mod many_declared;
+#[cfg(test)]
 mod metadata_blocks;
 #[cfg(test)]
 mod metadata_cases;
@@ -25,6 +27,8 @@ mod printed_trees;
 mod stream_cases;
 #[cfg(test)]
 mod stream_fields;
+#[cfg(test)]
+mod stream_headers;
 #[cfg(test)]
 mod stream_kinds;
 #[cfg(test)]

@@ -3,3 +3,4 @@ pub mod Counted
 pub mod Taken
 pub mod Reading
 pub mod Cutting
+pub mod AlikeHosts

@@ -3,3 +3,4 @@ pub mod Jobs
 pub mod Marks
 pub mod Hosts
 pub mod Limits
+pub mod OneTrace

@@ -1,5 +1,5 @@
 //! What the files of a host give together.
-ghost use Rattle.std.specs.Prelude.{◌≡◌, ◌+◌, ◌++◌, IfOk, OnOk, length};
+ghost use Rattle.std.specs.Prelude.{◌≡◌, ◌≤◌, ◌+◌, ◌^◌, ◌++◌, IfErr, IfOk, OnOk, length};
 ghost use Rattle.decode_pool.specs.Hosts.{incomplete_in, refused_in};
 ghost use Rattle.decode_pool.specs.Marks.{file_events, kept_in};
 
@@ -50,9 +50,10 @@ pub fn add_parts(
     Ok(())
 }
 
-/// The sum of two counts. No memory holds so many things that it passes 64 bits.
+/// The sum of two counts. It is refused where it passes 64 bits, and no memory holds so many things.
 pub fn sum(a: u64, b: u64) -> Result<u64, OutOfMemory>
-    ensures { IfOk result (λ n. n ≡ a + b) }
+    ensures sum { IfOk result (λ n. n ≡ a + b) }
+    ensures full { IfErr result (λ error. 2 ^ 64 ≤ a + b) }
 {
     match a.checked_add(b) {
         Some(sum) => Ok(sum),

@@ -81,13 +81,11 @@ fn gather(
 fn names_of(alloc: Global, meta: &TraceMeta) -> Result<Vec<Text>, OutOfMemory>
     ensures { IfOk result (λ names. names.items ≡ meta.now.told.event_names) }
 {
+    meta.is_sound();
     let mut names = Vec::new(alloc);
     let mut number = 0u32;
     while let Some(name) = meta.event_name(number) {
         names.push(Text::from_bytes(alloc, name)?)?;
-        if number == u32::MAX {
-            return Err(OutOfMemory);
-        }
         number += 1;
     }
     Ok(names)

@@ -23,6 +23,25 @@ stream { packet.context := struct { u16 content_size; u16 packet_size; u8 packet
 event { name = \"a\"; id = 0; fields := struct { u8 n; u8 x[n]; }; };
 event { name = \"sched_process_exit\"; id = 1; fields := struct { u8 pid; }; };";
 
+// Two streams whose packets have their numbers and counts in 8 and in 16 bits.
+const TWO_SIZES: &[u8] = b"/* CTF 1.8 */
+typealias integer { size = 8; } := u8; typealias integer { size = 16; } := u16; typealias integer { size = 32; } := u32;
+trace { byte_order = le; packet.header := struct { u32 magic; u8 stream_id; }; };
+clock { name = \"c\"; offset = 1000; };
+stream { id = 0; packet.context := struct { u16 content_size; u16 packet_size; u8 packet_seq_num; u8 events_discarded; };
+  event.header := struct { u8 id; u8 timestamp; }; };
+stream { id = 1; packet.context := struct { u16 content_size; u16 packet_size; u16 packet_seq_num; u16 events_discarded; };
+  event.header := struct { u8 id; u8 timestamp; }; };
+event { name = \"a\"; stream_id = 0; id = 0; fields := struct { u8 n; u8 x[n]; }; };
+event { name = \"a\"; stream_id = 1; id = 0; fields := struct { u8 n; u8 x[n]; }; };";
+
+// The numbers are 255, 256 and 1, which in 8 bits is the one behind 256; the counts 254, 258 and 3, in 8 bits 1 more than 258.
+const MIXED: &[u8] = &[
+    0xC1, 0x1F, 0xFC, 0xC1, 0, 0x78, 0, 0x78, 0, 255, 254, 0, 5, 1, 0xAA, //
+    0xC1, 0x1F, 0xFC, 0xC1, 1, 0x88, 0, 0x88, 0, 0, 1, 2, 1, 0, 7, 1, 0xAA, //
+    0xC1, 0x1F, 0xFC, 0xC1, 0, 0x78, 0, 0x78, 0, 1, 3, 0, 9, 1, 0xAA,
+];
+
 // Three packets with one event each: the second's number isn't the next, and before the third 4 events were lost.
 const THREE: &[u8] = &[
     0xC1, 0x1F, 0xFC, 0xC1, 0x70, 0, 0x70, 0, 0, 0, 0, 5, 1, 0xAA, //
@@ -68,7 +87,17 @@ fn decoded<R: AllocGlobal + Threads + Sync + Abort>(
 ) -> Result<HostEvents, Fail>
     requires { AllByRecursion IsSmall files.items }
 {
-    match read_metadata(rt.alloc(), METADATA) {
+    decoded_by(rt, METADATA, files)
+}
+
+fn decoded_by<R: AllocGlobal + Threads + Sync + Abort>(
+    rt: &R,
+    metadata: &[u8],
+    files: Vec<FileBytes>,
+) -> Result<HostEvents, Fail>
+    requires { AllByRecursion IsSmall files.items }
+{
+    match read_metadata(rt.alloc(), metadata) {
         Ok(meta) => {
             let host = HostFiles {
                 host: 3,
@@ -207,4 +236,29 @@ fn is_refused<R: Abort>(rt: &R, found: &HostEvents) -> Result<(), Fail> {
         assert_eq!(rt; refused.cause, Cause::UnknownEvent);
     }
     Ok(())
+}
+
+// A packet's number and count are compared with those before in the bits that it has itself.
+#[test]
+fn counters_of_two_sizes(rt: HostRuntime) -> Result<(), Fail> {
+    let mut files = Vec::new(rt.alloc());
+    add_file(rt.alloc(), b"ch0", MIXED, &mut files)?;
+    let found = decoded_by(&rt, TWO_SIZES, files)?;
+    assert_eq!(rt; found.packets, 3);
+    are_events(
+        &rt,
+        &found,
+        &[
+            (1005, lost(254)),
+            (1005, A),
+            (1007, lost(4)),
+            (1007, A),
+            (1009, lost(1)),
+            (1009, A),
+        ],
+    )
+}
+
+fn lost(events: u64) -> KernelEvent {
+    KernelEvent::Lost { events, gap: false }
 }

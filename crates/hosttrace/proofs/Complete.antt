@@ -15,10 +15,8 @@ use Rattle.command_words.specs.declared.command.PlainCommand.TheVariants.{Check,
 use Rattle.command_words.specs.declared.command.Input.{Input}
 use Rattle.command_words.specs.declared.command.Input.TheVariants as input
 use Rattle.decode_pool.specs.declared.hosts.HostFiles.{HostFiles}
-use Rattle.trace_types.specs.Limits.{MAX_EVENTS}
-use Rattle.decode_pool.specs.Limits.{MAX_PACKETS, event_count, packet_count}
 use Rattle.hosttrace.specs.Streams.{AreStreamsRead, StreamFits, StreamRefuses, StreamsRefuse, metadata_size, size_of}
-use Rattle.hosttrace.specs.Merges.{FolderTraceRefuses, IsGoodFolder, MergeRefuses}
+use Rattle.hosttrace.specs.Merges.{FolderTraceRefuses, IsGoodFolder, IsWithinLimits, MergeRefuses}
 use Rattle.hosttrace.specs.declared.status.ListFile.TheVariants.{Events, Questions}
 use Rattle.hosttrace.specs.declared.status.Limit.TheVariants as limit
 use Rattle.hosttrace.specs.declared.status.Status.{Status}
@@ -29,7 +27,7 @@ use Rattle.hosttrace.specs.Inputs.{IsList, ListRefuses, AreAsked, QuestionsRefus
 use Rattle.hosttrace.specs.Folders.{FILES_LIMIT, HOST_LIMIT, METADATA_LIMIT, AreRead, FoldersRefuse, HasManyNames, IsRead, NamesRefuse, SizeRefuses, metadata_of}
 use Rattle.hosttrace.specs.Hosts.{AreTraces, HostsRefuse, MetadataRefuses}
 use Rattle.hosttrace.specs.Means.{AreChecked, CheckRefuses, InputRefuses, IsCrowd, IsGood, IsGoodInput, Refuses}
-use Rattle.hosttrace.specs.Outcome.{Seen, Means, IsValid, IsFaultless, IsOutcome}
+use Rattle.hosttrace.specs.Outcome.{Seen, Means, PlainMeans, IsValid, IsFaultless, IsOutcome, IsPlainOutcome}
 use Rattle.command_words.proofs.WordPlaces.{same_command}
 
 told : (seen : Option Files) (files : Files) (P : Files → Type 0) → seen ≡ Some files → IfSome seen P → P files
@@ -151,25 +149,25 @@ good_streams files dir before [] refusal h are = h
 good_streams files dir before (name ∷ names) refusal (inl h) are = good_stream before (size_of files dir name) refusal h are.0
 good_streams files dir before (name ∷ names) refusal (inr h) are = good_streams files dir (before + size_of files dir name) names refusal h.1 are.1
 
-good_merge : (host : HostFiles) (refusal : Refusal) → MergeRefuses host refusal → packet_count (host ∷ []) ≤ MAX_PACKETS → event_count (host ∷ []) ≤ MAX_EVENTS → ⊥
-good_merge host (TooLarge limit.Packets) h packets events = absurd (omega (arith, h, packets))
-good_merge host TooManyEvents h packets events = absurd (omega (arith, h.1, events))
-good_merge host (TooLarge limit.File) h packets events = h
-good_merge host (TooLarge limit.Files) h packets events = h
-good_merge host (TooLarge limit.Hosts) h packets events = h
-good_merge host (TooLarge limit.Names) h packets events = h
-good_merge host (TooLarge limit.Metadata) h packets events = h
-good_merge host (TooLarge limit.Questions) h packets events = h
-good_merge host (NoMetadata n) h packets events = h
-good_merge host (BadMetadata n cause) h packets events = h
-good_merge host (BadList file line) h packets events = h
+good_merge : (host : HostFiles) (refusal : Refusal) → MergeRefuses host refusal → IsWithinLimits host → ⊥
+good_merge host (TooLarge limit.Packets) h few = let packets = few.packets in absurd (omega (arith, h, packets))
+good_merge host TooManyEvents h few = let events = few.events in absurd (omega (arith, h.1, events))
+good_merge host (TooLarge limit.File) h few = h
+good_merge host (TooLarge limit.Files) h few = h
+good_merge host (TooLarge limit.Hosts) h few = h
+good_merge host (TooLarge limit.Names) h few = h
+good_merge host (TooLarge limit.Metadata) h few = h
+good_merge host (TooLarge limit.Questions) h few = h
+good_merge host (NoMetadata n) h few = h
+good_merge host (BadMetadata n cause) h few = h
+good_merge host (BadList file line) h few = h
 
-good_folder : (files : Files) (dir : List ℕ) (refusal : Refusal) → FolderTraceRefuses files dir refusal → IsGoodFolder files dir → ⊥
+pub good_folder : (files : Files) (dir : List ℕ) (refusal : Refusal) → FolderTraceRefuses files dir refusal → IsGoodFolder files dir → ⊥
 good_folder files dir refusal (inl (inl (inl h))) g = good_names files 0 0 dir refusal h g.few_names g.is_read
 good_folder files dir refusal (inl (inl (inr h))) g = good_size 0 (length (metadata_of files dir)) refusal h.1 g.is_read.small g.is_read.all
 good_folder files dir refusal (inl (inr (read, (names, are, inl h)))) g = good_streams files dir (metadata_size files dir) names refusal h (g.are_read names are)
 good_folder files dir refusal (inl (inr (read, (names, are, inr h)))) g = good_host 0 (metadata_of files dir) refusal g.trace h.1 g.declares
-good_folder files dir refusal (inr (host, is, h)) g = let few = g.few host is in good_merge host refusal h few.0 few.1
+good_folder files dir refusal (inr (host, is, h)) g = good_merge host refusal h (g.few host is)
 
 good_input : (source : Input) (files : Files) (refusal : Refusal) → InputRefuses source files refusal → IsGoodInput source files → ⊥
 good_input (input.List file) files refusal h g = good_list (bytes_of files [] file) refusal h g.0 g.1
@@ -181,6 +179,17 @@ good (Events folder) files refusal h g = good_folder files folder refusal h g
 good (State source at) files refusal h g = good_input source files refusal h g
 good (Ask source questions) files refusal (inl h) g = good_input source files refusal h g.0
 good (Ask source questions) files refusal (inr h) g = good_questions (bytes_of files [] questions) refusal h.1 g.1.0 g.1.1
+
+plain_complete : (command : PlainCommand) (seen : Seen) (status : Status) → PlainMeans command seen status → (files : Files) → seen.files ≡ Some files → IsGood command files → IsFaultless seen → (status ≡ Done) ⊎ (status ≡ NoMemory)
+plain_complete command seen Done m files e g f = inl refl
+plain_complete command seen NoMemory m files e g f = inr refl
+plain_complete command seen Usage m files e g f = absurd m
+plain_complete command seen WriteFault m files e g f = absurd (⊎_elim f.out f.err m)
+plain_complete command seen ReadFault m files e g f = absurd (f.read m)
+plain_complete command seen (Refused refusal) m files e g f = absurd (good command files refusal (told seen.files files _ e m) g)
+
+pub plain_outcome : (command : PlainCommand) (seen : Seen) (status : Status) → PlainMeans command seen status → IsPlainOutcome command seen status
+plain_outcome command seen status m = record { means = m; complete = plain_complete command seen status m }
 
 plain : Command → PlainCommand
 plain (Plain c) = c

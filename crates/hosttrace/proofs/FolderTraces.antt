@@ -1,16 +1,17 @@
 -- The trace of a folder, step by step.
-use Rattle.std.proofs.Common.{◌≡◌, inl, inr, ℕ, ◌+◌, ◌≤◌, List, [], length, Option, Some, None, ap, subst}
+use Rattle.std.proofs.Common.{◌≡◌, inl, inr, ℕ, ◌+◌, ◌≤◌, List, [], length, Option, Some, None, refl, ap, subst}
 use Rattle.std.specs.Prelude.{IfSome}
 use Rattle.ht_outside.specs.Files.{Files, ListsNames, bytes_of}
 use Rattle.decode_pool.specs.declared.hosts.HostFiles.{HostFiles}
 use Rattle.event_list.specs.declared.trace.MergedTrace.{MergedTrace}
 use Rattle.known_types.specs.Traces.{trace}
+use Rattle.type_table.specs.ToldKept.{IsSoundMeta}
 use Rattle.trace_metadata.specs.Files.{IsTrace}
 use Rattle.hosttrace.specs.Folders.{FILES_LIMIT, METADATA_LIMIT, HasFewNames, HasMetadata, IsRead, metadata_of}
 use Rattle.hosttrace.specs.Hosts.{MetadataRefuses, TextFails}
 use Rattle.hosttrace.specs.Inputs.{FailsBy, QuestionsRefuse}
 use Rattle.hosttrace.specs.Means.{IsInput, Refuses}
-use Rattle.hosttrace.specs.Merges.{FolderTraceRefuses, IsFolderTrace, IsMergeOf, MergeRefuses}
+use Rattle.hosttrace.specs.Merges.{FolderTraceRefuses, IsFolderMerge, IsMergeOf, IsWithinLimits, MergeRefuses, trace_of}
 use Rattle.hosttrace.specs.Streams.{AreChosen, AreFiles, AreStreamNames, AreStreamsRead, HostRefuses, IsHostOf, StreamsRefuse, metadata_size}
 use Rattle.command_words.specs.declared.command.Input.{Input}
 use Rattle.command_words.specs.declared.command.PlainCommand.TheVariants.{Ask}
@@ -19,9 +20,9 @@ use Rattle.hosttrace.specs.declared.status.Status.{Status}
 use Rattle.hosttrace.specs.declared.status.Status.TheVariants.{Done, Usage, Refused, ReadFault, WriteFault, NoMemory}
 use Rattle.hosttrace.proofs.Left.{fails_by}
 
-pub folder_trace : (o : Option Files) (dir : List ℕ) (host : HostFiles) (t : MergedTrace) → IfSome o (λ files. IsHostOf files dir host) → IsMergeOf host t → IfSome o (λ files. IsFolderTrace files dir t)
+pub folder_trace : (o : Option Files) (dir : List ℕ) (host : HostFiles) (t : MergedTrace) → IfSome o (λ files. IsHostOf files dir host) → IsWithinLimits host × IsMergeOf (trace_of host) t → IfSome o (λ files. IsFolderMerge files dir t)
 folder_trace None dir host t h is = tt
-folder_trace (Some files) dir host t h is = (host, h, is)
+folder_trace (Some files) dir host t h is = (trace_of host, record { host = host; is_host = h; within = is.0; is = refl }, is.1)
 
 pub merge_fails : (o : Option Files) (dir : List ℕ) (host : HostFiles) (a b : ℕ) (status : Status) → IfSome o (λ files. IsHostOf files dir host) → TextFails (MergeRefuses host) status → FailsBy (λ files r. FolderTraceRefuses files dir r) o a b status
 merge_fails None dir host a b (Refused r) h f = tt
@@ -80,9 +81,9 @@ metadata_fails o q p dir streams metadata a b ReadFault e d h is read f = absurd
 metadata_fails o q p dir streams metadata a b WriteFault e d h is read f = f
 
 pub is_host : (o q p : Option Files) (dir : List ℕ) (streams : List (List ℕ)) (metadata : List ℕ) (host : HostFiles) → q ≡ o → p ≡ o → IfSome o (λ files. IsKnown files dir streams (length metadata)) → IfSome p (λ files. metadata ≡ metadata_of files dir) → IfSome q (λ files. AreStreamsRead files dir (length metadata) streams)
-    → IfSome q (λ files. AreFiles files dir streams host.files.items) → host.host ≡ 0 → IsTrace metadata (trace host.meta) → IfSome o (λ files. IsHostOf files dir host)
-is_host None q p dir streams metadata host e d h is read are zero declares = tt
-is_host (Some files) q p dir streams metadata host e d h is read are zero declares =
+    → IfSome q (λ files. AreFiles files dir streams host.files.items) → host.host ≡ 0 → IsTrace metadata (trace host.meta) → IsSoundMeta host.meta → IfSome o (λ files. IsHostOf files dir host)
+is_host None q p dir streams metadata host e d h is read are zero declares sound = tt
+is_host (Some files) q p dir streams metadata host e d h is read are zero declares sound =
     let same : metadata ≡ metadata_of files dir = subst (λ o. IfSome o (λ files. metadata ≡ metadata_of files dir)) d is in
     record {
       number = zero;
@@ -92,4 +93,5 @@ is_host (Some files) q p dir streams metadata host e d h is read are zero declar
       are_read = subst (λ n. AreStreamsRead files dir n streams) h.size_is (subst (λ o. IfSome o (λ files. AreStreamsRead files dir (length metadata) streams)) e read);
       are_files = subst (λ o. IfSome o (λ files. AreFiles files dir streams host.files.items)) e are;
       declares = subst (λ m. IsTrace m (trace host.meta)) same declares;
+      sound = sound;
     }

@@ -9,3 +9,6 @@ pub mod Texts
 pub mod StreamsRead
 pub mod Merged
 pub mod FolderTraces
+pub mod OneOrder
+pub mod OneFolder
+pub mod Told

@@ -1,5 +1,5 @@
 -- What each command makes of its files.
-use Rattle.std.specs.Prelude.{◌≡◌, ◌⊎◌, ℕ, ◌<◌, ◌≤◌, List, [], flat_map, length, map}
+use Rattle.std.specs.Prelude.{◌≡◌, ◌⊎◌, ℕ, ◌<◌, ◌≤◌, List, [], ◌∷◌, flat_map, length, map}
 use Rattle.std.specs.List.{AllByRecursion}
 use Rattle.event_list.specs.Lines.{IsEventList}
 use Rattle.event_list.specs.Names.{lines_of, names_at}
@@ -19,7 +19,7 @@ use Rattle.command_words.specs.declared.command.PlainCommand.{PlainCommand}
 use Rattle.command_words.specs.declared.command.PlainCommand.TheVariants.{Check, Events, State, Ask}
 use Rattle.command_words.specs.declared.command.Input.{Input}
 use Rattle.command_words.specs.declared.command.Input.TheVariants as input
-use Rattle.hosttrace.specs.Merges.{FolderTraceRefuses, IsFolderTrace, IsGoodFolder}
+use Rattle.hosttrace.specs.Merges.{FolderTrace, FolderTraceRefuses, IsFolderMerge, IsFolderTrace, IsGoodFolder}
 use Rattle.hosttrace.specs.declared.status.Limit.TheVariants as limit
 use Rattle.hosttrace.specs.declared.status.Refusal.{Refusal}
 use Rattle.hosttrace.specs.declared.status.Refusal.TheVariants.{TooLarge}
@@ -53,7 +53,7 @@ pub record AreChecked (files : Files) (folders : List (List ℕ)) : Type 0 where
 -- the trace of an input: what the lines of a list tell, or the merge of a folder's host
 abbrev pub IsInput : Input → Files → MergedTrace → Type 0
 IsInput (input.List file) files trace = IsListTrace (bytes_of files [] file) trace
-IsInput (input.Folder dir) files trace = IsFolderTrace files dir trace
+IsInput (input.Folder dir) files trace = IsFolderMerge files dir trace
 
 abbrev pub InputRefuses : Input → Files → Refusal → Type 0
 InputRefuses (input.List file) files refusal = ListRefuses (bytes_of files [] file) refusal
@@ -65,10 +65,10 @@ IsGoodInput (input.Folder dir) files = IsGoodFolder files dir
 
 -- the list of all events of a folder's host, which is a list that is read again: each line as an event of the same line
 pub record IsEventsOutput (files : Files) (dir text : List ℕ) : Type 0 where
-  pub trace : MergedTrace
+  pub trace : FolderTrace
   pub is_trace : IsFolderTrace files dir trace
-  pub is_text : text ≡ lines_of (names_at trace.names.items) trace.events.items
-  pub is_list : IsEventList text (tolds_of (names_at trace.names.items) trace.events.items)
+  pub is_text : text ≡ lines_of (names_at (trace.names ∷ [])) trace.events
+  pub is_list : IsEventList text (tolds_of (names_at (trace.names ∷ [])) trace.events)
 
 -- the text of the state at an instant, of an input
 pub record IsStateOutput (files : Files) (source : Input) (at : ℕ) (text : List ℕ) : Type 0 where

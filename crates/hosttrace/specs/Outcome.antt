@@ -86,6 +86,11 @@ pub record IsFaultless (seen : Seen) : Type 0 where
   pub out : ¬ (HasRisen seen.out_faults seen.out_faults_after)
   pub err : ¬ (HasRisen seen.err_faults seen.err_faults_after)
 
+-- a status of a command that was read means what it says, and where its files are good and no call has failed it is Done, or memory ran out
+pub record IsPlainOutcome (command : PlainCommand) (seen : Seen) (status : Status) : Type 0 where
+  pub means : PlainMeans command seen status
+  pub complete : (files : Files) → seen.files ≡ Some files → IsGood command files → IsFaultless seen → (status ≡ Done) ⊎ (status ≡ NoMemory)
+
 -- a status means what it says, and valid input without a fault comes to Done, or memory ran out
 pub record IsOutcome (words : List (List ℕ)) (seen : Seen) (status : Status) : Type 0 where
   pub means : Means words seen status

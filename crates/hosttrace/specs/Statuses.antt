@@ -1,5 +1,5 @@
 -- The exit statuses, and the lines that tell them (this project's own).
-use Rattle.std.specs.Prelude.{◌⊎◌, ℕ, List, [], ◌∷◌, ◌++◌, codes, Option}
+use Rattle.std.specs.Prelude.{◌≡◌, ◌⊎◌, ℕ, List, [], ◌∷◌, ◌++◌, codes, Option}
 use Rattle.std.specs.Fmt.{decimal}
 use Rattle.std.specs.Io.KnownBytes.{Appends}
 use Rattle.ht_outside.specs.Faults.{HasRisen}
@@ -59,6 +59,17 @@ IsTold (Refused refusal) old new faults faults_after = Appends old new (status_l
 IsTold ReadFault old new faults faults_after = Appends old new (status_line ReadFault)
 IsTold WriteFault old new faults faults_after = Appends old new (status_line WriteFault) ⊎ (HasRisen faults faults_after × (status : Status) × AppendsFront old new (status_line status))
 IsTold NoMemory old new faults faults_after = (status : Status) × AppendsFront old new (status_line status)
+
+-- the line that tells of a status: its own, or where memory for that ran out the one that says so
+abbrev pub IsLineOf : Status → List ℕ → Type 0
+IsLineOf reported line = (line ≡ status_line reported) ⊎ (line ≡ status_line NoMemory)
+
+-- a sink of these bytes and faults, before and after, was told a status: it gained that line, and the status is answered; or memory for the line ran out, and it gained the one that says so; or one of these two couldn't be written, and it gained a front of it
+abbrev pub IsToldOf : Status → Status → Option (List ℕ) → Option (List ℕ) → ℕ → ℕ → Type 0
+IsToldOf reported answered old new faults faults_after =
+    ((answered ≡ reported) × Appends old new (status_line reported))
+    ⊎ (((answered ≡ NoMemory) × Appends old new (status_line NoMemory))
+    ⊎ ((((answered ≡ WriteFault) × HasRisen faults faults_after) ⊎ (answered ≡ NoMemory)) × ((line : List ℕ) × IsLineOf reported line × AppendsFront old new line)))
 
 -- the statuses that tell why a file is no list
 abbrev pub list_status : ListError → Status

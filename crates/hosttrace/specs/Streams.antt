@@ -4,6 +4,7 @@ use Rattle.std.specs.List.{AllPairs}
 use Rattle.std.specs.Cmp.Lexicographic.{pointwise, slice_cmp}
 use Rattle.std.specs.Ordering.{is_lt, nat_cmp}
 use Rattle.known_types.specs.Traces.{trace}
+use Rattle.type_table.specs.ToldKept.{IsSoundMeta}
 use Rattle.trace_metadata.specs.Files.{IsTrace}
 use Rattle.ht_outside.specs.Files.{Files, ListsNames, bytes_of}
 use Rattle.decode_pool.specs.declared.files.FileBytes.{FileBytes}
@@ -74,6 +75,7 @@ pub record IsHostOf (files : Files) (dir : List ℕ) (host : HostFiles) : Type 0
   pub are_read : AreStreamsRead files dir (metadata_size files dir) names
   pub are_files : AreFiles files dir names host.files.items
   pub declares : IsTrace (metadata_of files dir) (trace host.meta)
+  pub sound : IsSoundMeta host.meta
 
 -- why the stream files of these names are refused, or behind good ones the metadata
 abbrev pub ContentRefuses : Files → List ℕ → List (List ℕ) → Refusal → Type 0

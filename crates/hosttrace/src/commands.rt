@@ -2,7 +2,7 @@
 ghost use Rattle.std.specs.Prelude.{◌≡◌, [], IfOk, IfErr, IfSome, map, string_bytes};
 ghost use Rattle.hosttrace.specs.Inputs.{FailsBy};
 ghost use Rattle.hosttrace.specs.Means.{IsAskOutput, IsCheckOutput, IsEventsOutput, IsOutput, IsStateOutput, Refuses};
-ghost use Rattle.hosttrace.specs.Outcome.{IsOutcome, Leaves, PlainLeaves, PlainMeans};
+ghost use Rattle.hosttrace.specs.Outcome.{IsOutcome, IsPlainOutcome, Leaves, PlainLeaves, PlainMeans};
 ghost use Rattle.hosttrace.specs.Statuses.{IsTold};
 ghost use Rattle.command_words.specs.declared.command.PlainCommand.TheVariants.{Ask, Check, Events, State};
 
@@ -62,7 +62,7 @@ pub fn run_plain<R: Threads + Sync, S: Store, K: Sink, E: Sink>(
     out: &mut K,
     err: &mut E,
 ) -> Status
-    ensures headline { PlainMeans command.now (record {
+    ensures headline { IsPlainOutcome command.now (record {
       files = S.holds store.old;
       read_faults = S.faults store.old;
       read_faults_after = S.faults store.new;

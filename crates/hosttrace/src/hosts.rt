@@ -1,6 +1,7 @@
 //! What the metadata of hosts declares.
 ghost use Rattle.std.specs.Prelude.{◌≡◌, ◌++◌, ◌≤◌, ◌^◌, ◌<◌, length, map, IfOk, IfErr, OnOk};
 ghost use Rattle.known_types.specs.Traces.{trace};
+ghost use Rattle.type_table.specs.ToldKept.{IsSoundMeta};
 ghost use Rattle.trace_metadata.specs.Files.{IsTrace};
 ghost use Rattle.hosttrace.specs.Folders.{HOST_LIMIT};
 ghost use Rattle.hosttrace.specs.Hosts.{AreTraces, HostsRefuse, MetadataRefuses, TextFails, host_line, host_lines};
@@ -29,6 +30,7 @@ pub fn read_hosts(alloc: Global, files: &[Items<u8>]) -> Result<Vec<TraceMeta>, 
 /// What the metadata of this host declares.
 pub fn read_host(alloc: Global, host: u32, bytes: &[u8]) -> Result<TraceMeta, Status>
     ensures trace { IfOk result (λ meta. IsTrace bytes.now (trace meta)) }
+    ensures sound { IfOk result IsSoundMeta }
     ensures fails { IfErr result (λ status. TextFails (MetadataRefuses host bytes.now) status) }
 {
     match read_metadata(alloc, bytes) {

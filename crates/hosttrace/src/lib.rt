@@ -5,6 +5,7 @@ mod commands;
 mod folders;
 mod hosts;
 mod inputs;
+mod laws;
 mod questions;
 mod reading;
 mod status;
@@ -15,5 +16,6 @@ mod writing;
 
 pub use command_words::{Command, Input, PlainCommand, WordsError, parse_words};
 pub use commands::{run, run_plain};
+pub use laws::one_folder;
 pub use status::{Limit, ListFile, Refusal, Status};
 pub use status_line::write_status;

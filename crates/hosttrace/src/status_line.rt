@@ -1,7 +1,7 @@
 //! The line that says on the sink for errors how a command ended.
 ghost use Rattle.std.specs.Prelude.{◌≡◌, ◌++◌, ◌∷◌, [], IfOk};
 ghost use Rattle.hosttrace.specs.Outcome.{IsReported};
-ghost use Rattle.hosttrace.specs.Statuses.{IsTold, status_line, refusal_text};
+ghost use Rattle.hosttrace.specs.Statuses.{IsToldOf, status_line, refusal_text};
 ghost use Rattle.hosttrace.specs.declared.status.Refusal.{Refusal};
 ghost use Rattle.hosttrace.specs.declared.status.Status.TheVariants as statuses;
 
@@ -60,7 +60,7 @@ impl fmt::Display for Refusal {
 /// line couldn't be written.
 pub fn write_status<E: Sink>(alloc: Global, status: Status, err: &mut E) -> Status
     ensures answer { IsReported status result (E.faults err.old) (E.faults err.new) }
-    ensures told { IsTold result (E.contents err.old) (E.contents err.new) (E.faults err.old) (E.faults err.new) }
+    ensures told { IsToldOf status result (E.contents err.old) (E.contents err.new) (E.faults err.old) (E.faults err.new) }
 {
     let Status::Refused(refusal) = status else {
         return write_line(status, fixed_line(&status), err);
@@ -74,7 +74,7 @@ pub fn write_status<E: Sink>(alloc: Global, status: Status, err: &mut E) -> Stat
 fn write_line<E: Sink>(status: Status, line: &[u8], err: &mut E) -> Status
     requires { line.now ≡ status_line status }
     ensures answer { IsReported status result (E.faults err.old) (E.faults err.new) }
-    ensures told { IsTold result (E.contents err.old) (E.contents err.new) (E.faults err.old) (E.faults err.new) }
+    ensures told { IsToldOf status result (E.contents err.old) (E.contents err.new) (E.faults err.old) (E.faults err.new) }
 {
     match write_text(err, line) {
         Ok(()) => status,

@@ -4,7 +4,7 @@ ghost use Rattle.history_core.specs.Agreement.{IsMerge};
 ghost use Rattle.decode_pool.specs.Limits.{HasSmallFiles};
 ghost use Rattle.hosttrace.specs.Hosts.{TextFails};
 ghost use Rattle.hosttrace.specs.Inputs.{FailsBy};
-ghost use Rattle.hosttrace.specs.Merges.{FolderTraceRefuses, IsFolderTrace, IsMergeOf, MergeRefuses};
+ghost use Rattle.hosttrace.specs.Merges.{FolderTraceRefuses, IsFolderMerge, IsMergeOf, IsWithinLimits, MergeRefuses, trace_of};
 ghost use Rattle.hosttrace.specs.Streams.{HostRefuses, IsHostOf};
 
 use crate::folders::{look_into, read_metadata_of, too_large};
@@ -26,7 +26,7 @@ pub fn read_trace<S: Store>(
     dir: &Text,
     store: &mut S,
 ) -> Result<MergedTrace, Status>
-    ensures trace { IfOk result (λ trace. IfSome (S.holds store.old) (λ files. IsFolderTrace files dir.now trace)) }
+    ensures trace { IfOk result (λ trace. IfSome (S.holds store.old) (λ files. IsFolderMerge files dir.now trace)) }
     ensures merge { IfOk result (λ trace. IsMerge trace.events.items) }
     ensures fails { IfErr result (λ status. FailsBy (λ files refusal. FolderTraceRefuses files dir.now refusal) (S.holds store.old) (S.faults store.old) (S.faults store.new) status) }
     ensures grows { S.faults store.old ≤ S.faults store.new }
@@ -65,7 +65,7 @@ fn merge_of(
     host: HostFiles,
 ) -> Result<MergedTrace, Status>
     requires { HasSmallFiles host }
-    ensures trace { IfOk result (λ trace. IsMergeOf host trace) }
+    ensures trace { IfOk result (λ trace. IsWithinLimits host × IsMergeOf (trace_of host) trace) }
     ensures fails { IfErr result (λ status. TextFails (MergeRefuses host) status) }
 {
     let hosts = [host];
@@ -76,7 +76,7 @@ fn merge_of(
         Err(DecodeError::OutOfMemory) => return Err(Status::NoMemory),
     };
     let Some(events) = found.pop() else {
-        return Err(Status::NoMemory);
+        unreachable!()
     };
     match merge_single(alloc, events) {
         Ok(trace) => Ok(trace),

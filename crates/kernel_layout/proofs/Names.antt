@@ -54,3 +54,9 @@ all_taken (x ∷ xs) (suc n) e = ap (λ l. x ∷ l) (all_taken xs n e)
 -- two values that are there
 pub both_there : {A B C : Type 0} (o : Option A) (p : Option B) (f : A → B → C) (a : A) (b : B) → Some a ≡ o → Some b ≡ p → Some (f a b) ≡ and_then o (λ x. and_then p (λ y. Some (f x y)))
 both_there o p f a b e g = rw (sym e, sym g) refl
+
+-- an item's number is less than how many items there are
+pub number_within : {A : Type 0} (xs : List A) (n : ℕ) (x : A) → slice_get xs n ≡ Some x → n < length xs
+number_within [] n x h = absurd (cc)
+number_within (y ∷ xs) zero x h = omega arith
+number_within (y ∷ xs) (suc n) x h = let rest = number_within xs n x h in omega (arith, rest)

@@ -29,13 +29,11 @@ impl Layout {
     pub fn new(alloc: Global, meta: &TraceMeta) -> Result<Layout, OutOfMemory>
         ensures { IfOk result (λ layout. layout ≡ layout_of meta.now) }
     {
+        meta.is_sound();
         let mut tracepoints = Vec::new(alloc);
         let mut number = 0u32;
         while let Some(name) = meta.event_name(number) {
             tracepoints.push(tracepoint_of(name))?;
-            if number == u32::MAX {
-                return Err(OutOfMemory);
-            }
             number += 1;
         }
         Ok(Layout { tracepoints })

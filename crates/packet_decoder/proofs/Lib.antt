@@ -2,3 +2,7 @@ pub mod Cuts
 pub mod Seconds
 pub mod Turns
 pub mod Left
+pub mod AlikeValues
+pub mod AlikeHeadings
+pub mod AlikePieces
+pub mod AlikeEvents

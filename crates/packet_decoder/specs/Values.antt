@@ -11,14 +11,13 @@ use Rattle.ctf_fields.specs.Fields.{number_of}
 use Rattle.ctf_fields.specs.Reading.{integer_type}
 use Rattle.packet_decoder.specs.declared.piece.Counter.{Counter}
 
--- the magic number, where it is there
+-- the magic number, where there is an integer of that name
 abbrev pub is_magic : Option (ℤ × ℕ) → Bool
-is_magic None = false
+is_magic None = true
 is_magic (Some n) = int_eq n.0 (pos 0xc1fc1fc1)
 
 abbrev pub magic_fits : Option Field → Bool
-magic_fits None = true
-magic_fits (Some f) = is_magic (number_of (Some f))
+magic_fits f = is_magic (number_of f)
 
 -- the trace's id, where both are there
 abbrev pub is_byte : ℕ → Option (ℤ × ℕ) → Bool

@@ -16,14 +16,13 @@ pub fn below_32(value: Option<i128>) -> Option<u32>
     Some(below(value, 1 << 32)? as u32)
 }
 
-/// Whether the field is the magic number, where it is there.
+/// Whether the field is the magic number, where it is an integer; a field of another form counts as missing.
 pub fn magic_fits(field: Option<&Field>) -> bool
     ensures { result ≡ magic_fits (option_copied field.entry) }
 {
     match field {
-        None => true,
         Some(Field::Int { value, .. }) => *value == 0xC1FC_1FC1,
-        Some(_) => false,
+        _ => true,
     }
 }
 

@@ -2,6 +2,7 @@
 ghost use Rattle.std.specs.Prelude.{IfOk};
 ghost use Rattle.known_types.specs.Traces.{trace};
 ghost use Rattle.meta_packets.specs.Packets.{IsText};
+ghost use Rattle.type_table.specs.ToldKept.{IsSoundMeta};
 ghost use Rattle.trace_metadata.specs.Files.{HasTokens, HasDecls, IsTrace, IsRefused, OnRefusal};
 
 use crate::cause::MetaCause;
@@ -35,11 +36,15 @@ impl Error for MetadataError {}
 /// What a metadata file declares. Each step is made only of what the one before gave whole.
 pub fn read_metadata(alloc: Global, bytes: &[u8]) -> Result<TraceMeta, MetadataError>
     ensures trace { IfOk result (λ meta. IsTrace bytes.now (trace meta)) }
+    ensures sound { IfOk result IsSoundMeta }
     ensures refused { OnRefusal (IsRefused bytes.now) result }
 {
     let decls = decls_of(alloc, bytes)?;
     match resolve(alloc, &decls) {
-        Ok(meta) => Ok(meta),
+        Ok(meta) => {
+            meta.is_sound();
+            Ok(meta)
+        }
         Err(MetaError::Item { item, cause }) => {
             Err(MetadataError::Refused(MetaCause::Item { item, cause }))
         }

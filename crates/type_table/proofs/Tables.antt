@@ -8,7 +8,7 @@ use Rattle.type_table.specs.declared.facts.Facts.{Facts}
 use Rattle.type_table.specs.declared.meta.FieldMeta.{FieldMeta}
 use Rattle.type_table.specs.Types.{Text, Ty, Fields, Field, No, Str, MAX_DEPTH, MAX_PARTS, depth, parts, Named, Struct, Variant, Array, Sequence, fits, widest, parts_of_all}
 use Rattle.type_table.specs.Facts.{facts_of, facts_at, meta_facts, are_fit, AreFit, no_sum, sum_of}
-use Rattle.type_table.specs.Table.{Table, Grows, Keeps, AreRanked, IsTable, trees, trees_from, tree, tree_at, grown, shape, FieldsIn, fields_at, integer_in, labels_at, name_at, way_of, way_or_here, NamesIn, RefersIn, IsBased, IsSound, AreSound}
+use Rattle.type_table.specs.Table.{Table, Grows, Keeps, AreRanked, IsTable, trees, trees_from, tree, tree_at, grown, shape, FieldsIn, fields_at, integer_in, labels_at, name_at, way_of, way_or_here, NamesIn, RefersIn, IsBased, AreBased, IsWhole, IsSound, AreSound, IsSoundTable}
 use Rattle.type_table.proofs.Trees.{trees_len, trees_push, trees_more, ranked_push}
 use Rattle.type_table.proofs.Factual.{IsSum, factual, facts_known, is_sum}
 
@@ -48,11 +48,39 @@ sound_at [] i t h e = absurd (cc)
 sound_at (u ∷ types) zero t h e = let same : u ≡ t = cc in subst IsSound same h.0
 sound_at (u ∷ types) (suc i) t h e = sound_at types i t h.1 e
 
+-- enumerations of integers stay such with more types
+based_more : (few more : List Ty) (n : ℕ) (t : TypeMeta) → n ≤ length few → RefersIn n t → IsBased few t → IsBased (few ++ more) t
+based_more few more n (meta.Integer size align signed order clock) le h b = tt
+based_more few more n (meta.Enum base labels) le h b = subst IsWhole (sym (get_or_append_left few more Str base (omega (arith, le, h)))) b
+based_more few more n meta.Str le h b = tt
+based_more few more n (meta.Struct align fields) le h b = tt
+based_more few more n (meta.Variant tag fields) le h b = tt
+based_more few more n (meta.Array count item) le h b = tt
+based_more few more n (meta.Sequence count item) le h b = tt
+
+based_all : (names k : ℕ) (few more : List Ty) (ts : List TypeMeta) → AreRanked names k ts → k + length ts ≤ length few → AreBased few ts → AreBased (few ++ more) ts
+based_all names k few more [] r le b = tt
+based_all names k few more (t ∷ ts) r le b = (based_more few more k t (omega (arith, le)) r.1 b.0, based_all names (k + 1) few more ts r.2 (omega (arith, le)) b.1)
+
+based_push : (trees : List Ty) (ts : List TypeMeta) (t : TypeMeta) → AreBased trees ts → IsBased trees t → AreBased trees (ts ++ t ∷ [])
+based_push trees [] t h b = (b, tt)
+based_push trees (u ∷ ts) t h b = (h.0, based_push trees ts t h.1 b)
+
+based_with : (names : List Text) (types : List TypeMeta) (facts : List Facts) (t : TypeMeta) → IsTable (of names types) facts → RefersIn (length types) t → IsBased (trees (of names types)) t → AreBased (trees (of names (types ++ t ∷ []))) (types ++ t ∷ [])
+based_with names types facts t table refers based =
+    let count = trees_count names types in
+    let next = shape names (trees (of names types)) t ∷ [] in
+    let old = based_all (length names) 0 (trees (of names types)) next types table.ranked (omega (arith, count)) table.based in
+    let new = based_more (trees (of names types)) next (length types) t (omega (arith, count)) refers based in
+    subst (λ ts. AreBased ts (types ++ t ∷ [])) (sym (trees_push names [] types t)) (based_push (trees (of names types) ++ next) types t old new)
+
 pub keeps_type : (names : List Text) (types : List TypeMeta) (facts : List Facts) (t : TypeMeta) (f : Facts) → IsTable (of names types) facts → NamesIn (length names) t → RefersIn (length types) t → IsBased (trees (of names types)) t → IsSound t
     → f ≡ meta_facts facts t → are_fit f ≡ true → IsTable (of names (types ++ t ∷ [])) (facts ++ f ∷ [])
 keeps_type names types facts t f table in_names refers based sound is fit = record {
+  few_names = table.few_names;
   ranked = ranked_push (length names) 0 types t table.ranked in_names (subst (λ n. RefersIn n t) (omega arith) refers);
   sound = sound_push types t table.sound sound;
+  based = based_with names types facts t table refers based;
   known = along (λ fs. fs ++ f ∷ []) _ _ table.known
       ∙ along (λ g. map facts_of (trees (of names types)) ++ g ∷ []) _ _ (is ∙ next_facts names types facts t table refers based)
       ∙ sym (map-append facts_of (trees (of names types)) (shape names (trees (of names types)) t ∷ []))
@@ -204,3 +232,7 @@ limited names types facts n table h =
     let same = along are_fit _ _ (sym (facts_stand names types facts n table h)) ∙ here in
     let both = both_hold (nat_le (depth (tree (of names types) n)) MAX_DEPTH) (nat_le (parts (tree (of names types) n)) MAX_PARTS) same in
     (leb-true _ _ both.0, leb-true _ _ both.1)
+
+-- a table is sound, whatever facts are kept of it
+pub sound_table : (names : List Text) (types : List TypeMeta) (facts : List Facts) → IsTable (of names types) facts → IsSoundTable (of names types)
+sound_table names types facts table = subst (IsTable (of names types)) table.known table

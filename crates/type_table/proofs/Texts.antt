@@ -1,5 +1,5 @@
 -- Texts among others.
-use Rattle.std.proofs.Common.{◌≡◌, ℕ, ◌<◌, ◌++◌, List, [], ◌∷◌, length, Some, Bool, true, false, ◌&&◌, nat_eq, refl, sym, ap, ◌∙◌, arith, if◌then◌else◌, map, append-nil}
+use Rattle.std.proofs.Common.{◌≡◌, ℕ, ◌<◌, ◌+◌, ◌^◌, ◌++◌, List, [], ◌∷◌, length, Some, Bool, true, false, ◌&&◌, nat_eq, refl, sym, ap, ◌∙◌, subst, arith, if◌then◌else◌, map, append-nil}
 use Rattle.std.specs.List.{position, list_any}
 use Rattle.std.specs.Cmp.Lexicographic.{pointwise}
 use Rattle.std.proofs.lemmas.Bool.{eqb-true}
@@ -10,7 +10,7 @@ use Rattle.type_table.specs.declared.meta.TypeMeta.{TypeMeta}
 use Rattle.type_table.specs.declared.facts.Facts.{Facts}
 use Rattle.type_table.specs.Types.{Text}
 use Rattle.type_table.specs.Facts.{facts_of}
-use Rattle.type_table.specs.Table.{Table, Grows, AreRanked, IsTable, trees, name_at}
+use Rattle.type_table.specs.Table.{Table, Grows, AreRanked, IsTable, AreBased, trees, name_at}
 use Rattle.type_table.proofs.Trees.{trees_more, ranked_more}
 
 along : {A B : Type 0} (f : A → B) (x y : A) → x ≡ y → f x ≡ f y
@@ -44,18 +44,20 @@ grows_by false names types name = record { more_names = name ∷ []; more_types 
 pub grows_name : (names : List Text) (types : List TypeMeta) (name : Text) → Grows (record { names = names; types = types }) (record { names = insert_key (pointwise nat_eq) names name; types = types })
 grows_name names types name = grows_by (list_any (pointwise nat_eq name) names) names types name
 
-keeps_by : (b : Bool) (names : List Text) (types : List TypeMeta) (facts : List Facts) (name : Text) → IsTable (record { names = names; types = types }) facts → IsTable (record { names = if b then names else names ++ name ∷ []; types = types }) facts
-keeps_by true names types facts name t = t
-keeps_by false names types facts name t = record {
+keeps_by : (b : Bool) (names : List Text) (types : List TypeMeta) (facts : List Facts) (name : Text) → length names + 1 < 2 ^ 32 → IsTable (record { names = names; types = types }) facts → IsTable (record { names = if b then names else names ++ name ∷ []; types = types }) facts
+keeps_by true names types facts name room t = t
+keeps_by false names types facts name room t = record {
+  few_names = omega (arith, room, length-append names (name ∷ []));
   ranked = ranked_more (length names) (length (names ++ name ∷ [])) 0 types (omega (arith, length-append names (name ∷ []))) t.ranked;
   known = t.known ∙ along (λ ts. map facts_of ts) _ _ (sym (trees_more names (name ∷ []) 0 [] types t.ranked));
   sound = t.sound;
+  based = subst (λ ts. AreBased ts types) (sym (trees_more names (name ∷ []) 0 [] types t.ranked)) t.based;
   fit = t.fit;
 }
 
 -- a table stays one with one more name
-pub keeps_name : (names : List Text) (types : List TypeMeta) (facts : List Facts) (name : Text) → IsTable (record { names = names; types = types }) facts → IsTable (record { names = insert_key (pointwise nat_eq) names name; types = types }) facts
-keeps_name names types facts name t = keeps_by (list_any (pointwise nat_eq name) names) names types facts name t
+pub keeps_name : (names : List Text) (types : List TypeMeta) (facts : List Facts) (name : Text) → length names + 1 < 2 ^ 32 → IsTable (record { names = names; types = types }) facts → IsTable (record { names = insert_key (pointwise nat_eq) names name; types = types }) facts
+keeps_name names types facts name room t = keeps_by (list_any (pointwise nat_eq name) names) names types facts name room t
 
 trees_by : (b : Bool) (names : List Text) (types : List TypeMeta) (name : Text) → AreRanked (length names) 0 types → trees (record { names = if b then names else names ++ name ∷ []; types = types }) ≡ trees (record { names = names; types = types })
 trees_by true names types name r = refl

@@ -1,5 +1,5 @@
 -- The types of a text as a list in which each names others by smaller places, and the trees that they stand for.
-use Rattle.std.specs.Prelude.{◌≡◌, ℕ, ◌<◌, ◌≤◌, ◌+◌, ◌%◌, ◌++◌, List, [], ◌∷◌, Option, Some, None, get_or, unwrap_or, length, map, false}
+use Rattle.std.specs.Prelude.{◌≡◌, ℕ, ◌<◌, ◌≤◌, ◌+◌, ◌%◌, ◌^◌, ◌++◌, List, [], ◌∷◌, Option, Some, None, get_or, unwrap_or, length, map, false}
 use Rattle.trace_types.specs.declared.byte_order.ByteOrderKind.TheVariants.{Little}
 use Rattle.type_table.specs.declared.meta.TypeMeta.{TypeMeta}
 use Rattle.type_table.specs.declared.meta.TypeMeta.TheVariants as meta
@@ -102,6 +102,10 @@ abbrev pub IsBased : List Ty → TypeMeta → Type 0
 IsBased trees (meta.Enum base labels) = IsWhole (tree_at trees base)
 IsBased trees _ = Unit {0}
 
+abbrev pub AreBased : List Ty → List TypeMeta → Type 0
+AreBased trees [] = Unit {0}
+AreBased trees (t ∷ ts) = IsBased trees t × AreBased trees ts
+
 abbrev pub FieldNamesIn : ℕ → List FieldMeta → Type 0
 FieldNamesIn n [] = Unit {0}
 FieldNamesIn n (f ∷ fs) = (f.name < n) × FieldNamesIn n fs
@@ -151,7 +155,13 @@ pub record Keeps (old new : Table) : Type 0 where
 
 -- a table that stands for trees
 pub record IsTable (table : Table) (facts : List Facts) : Type 0 where
+  pub few_names : length table.names < 2 ^ 32
   pub ranked : AreRanked (length table.names) 0 table.types
   pub sound : AreSound table.types
+  pub based : AreBased (trees table) table.types
   pub known : facts ≡ map facts_of (trees table)
   pub fit : AreFit facts
+
+-- a table as `Table` makes them: each type names types and names that are there, enumerations are of integers, and all limits hold
+abbrev pub IsSoundTable : Table → Type 0
+IsSoundTable t = IsTable t (map facts_of (trees t))

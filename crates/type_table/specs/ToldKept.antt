@@ -7,7 +7,7 @@ use Rattle.type_table.specs.declared.told.EventId.{EventId}
 use Rattle.type_table.specs.declared.told.EventParts.{EventParts}
 use Rattle.type_table.specs.declared.told.StreamScopes.{StreamScopes}
 use Rattle.type_table.specs.contracts.told.EventIdPartialEq.TheImpl as event_id
-use Rattle.type_table.specs.Table.{Table}
+use Rattle.type_table.specs.Table.{Table, IsSoundTable}
 use Rattle.type_table.specs.Types.{Text}
 use Rattle.trace_types.specs.declared.byte_order.ByteOrderKind.{ByteOrderKind}
 use Rattle.std.specs.List.{AllByRecursion}
@@ -100,3 +100,9 @@ pub record MetaParts : Type 0 where
 pub record AreInside (m : MetaParts) : Type 0 where
   pub header : IfHere (PlaceIn m.table) m.packet_header
   pub told : ToldIn m.table m.told
+
+-- what one trace declares as `TraceMeta` keeps it: its table is sound, and all places lie in it
+pub record IsSoundMeta (m : MetaParts) : Type 0 where
+  pub table : IsSoundTable m.table
+  pub inside : AreInside m
+  pub told : AreFew m.told

@@ -4,6 +4,7 @@
 mod cause;
 mod facts;
 mod fault;
+mod few;
 mod integer;
 mod laws;
 mod meta;

@@ -2,13 +2,14 @@
 ghost use Rattle.std.specs.Prelude.{◌≡◌, ◌<◌, ◌↔◌, ◌≤◌, ◌%◌, [], slice_get, Some, IsTrue, length, true, false, IfNone, IfOk, IfSome, OnOk};
 ghost use Rattle.type_table.specs.Facts.{facts_of};
 ghost use Rattle.type_table.specs.Faults.{OnBreak};
-ghost use Rattle.type_table.specs.Table.{FieldsIn, IsBased, IsSound, Keeps, NamesIn, RefersIn, fields_at, name_at, shape, tree, trees};
+ghost use Rattle.type_table.specs.Table.{FieldsIn, IsBased, IsSound, IsSoundTable, Keeps, NamesIn, RefersIn, fields_at, name_at, shape, tree, trees};
 ghost use Rattle.type_table.specs.Types.{MAX_DEPTH, MAX_PARTS, depth, fits, parts, parts_of_all, widest};
 ghost use Rattle.type_table.specs.declared.cause.MetaItemCause.TheVariants as causes;
 
 use crate::cause::MetaItemCause;
 use crate::facts::{Facts, facts_at, meta_facts, sum_of};
 use crate::fault::Fault;
+use crate::few::are_few;
 use crate::meta::{FieldMeta, TypeMeta};
 use indexmap::IndexSet;
 use sqlite_items::Items;
@@ -54,11 +55,12 @@ impl Table {
         ensures named { IfOk result (λ n. (n < length self.new.names) × (name_at self.new.names n ≡ name.now)) }
     {
         if let Some(number) = self.names.get_index_of(name) {
-            return u32::try_from(number).map_err(|_| OutOfMemory);
+            return Ok(number as u32);
         }
-        let Ok(number) = u32::try_from(self.names.len()) else {
+        if !are_few(self.names.len() + 1) {
             return Err(OutOfMemory);
-        };
+        }
+        let number = self.names.len() as u32;
         let name = Text::from_bytes(alloc, name.as_bytes())?;
         self.names.insert_full(name)?;
         Ok(number)
@@ -90,9 +92,10 @@ impl Table {
         let Some(facts) = meta_facts(self.facts.as_slice(), &meta) else {
             return Err(Fault::Breaks(MetaItemCause::BadAttribute));
         };
-        let Ok(place) = u32::try_from(self.types.len()) else {
+        if !are_few(self.types.len()) {
             return Err(Fault::OutOfMemory);
-        };
+        }
+        let place = self.types.len() as u32;
         self.facts.push(facts)?;
         if self.types.push(meta).is_err() {
             self.facts.pop();
@@ -146,6 +149,13 @@ impl Table {
         ensures { IsTrue result ↔ (length self.now.types ≡ 0) }
     {
         self.types.len() == 0
+    }
+
+    /// What holds of each table, for those who speak of one by its parts. It does nothing.
+    pub fn is_sound(&self)
+        ensures { IsSoundTable self.now }
+    {
+        let _ = &self.facts;
     }
 
     /// The limits hold for a type. It does nothing.

@@ -5,8 +5,9 @@ ghost use Rattle.std.specs.Map.{keys_of, lookup};
 ghost use Rattle.std.specs.Option.{option_copied};
 ghost use Rattle.indexmap.specs.IndexMap.{keys};
 ghost use Rattle.tsdl_parser.specs.Symbols.{is_text};
-ghost use Rattle.type_table.specs.ToldKept.{IsRate, kept_clock, kept_event, kept_hostname, kept_name, kept_stream, kept_trace, kept_uuid, nothing_kept, same_event};
+ghost use Rattle.type_table.specs.ToldKept.{AreFew, IsRate, kept_clock, kept_event, kept_hostname, kept_name, kept_stream, kept_trace, kept_uuid, nothing_kept, same_event};
 
+use crate::few::are_few;
 use indexmap::{IndexMap, IndexSet};
 use std::alloc::Global;
 use std::marker::Model;
@@ -81,6 +82,13 @@ impl Told {
         }
     }
 
+    /// What holds of all that blocks told: each list is short, and each clock's rate lies within its bounds. It does nothing.
+    pub fn are_few(&self)
+        ensures { AreFew self.now }
+    {
+        let _ = &self.streams;
+    }
+
     /// The clocks that were declared, fewer than 2^32, by their names.
     pub fn clocks(&self) -> &IndexMap<Text, ClockRate>
         ensures names { result.now.entries ≡ self.now.clocks }
@@ -128,7 +136,7 @@ impl Told {
         ensures ok { OnOk result (self.new ≡ kept_event event parts self.old) }
         ensures err { OnErr result (self.new ≡ self.old) }
     {
-        if self.events.len() >= u32::MAX as usize {
+        if !are_few(self.events.len() + 1) {
             return Err(OutOfMemory);
         }
         self.events.insert(event, parts)?;
@@ -142,7 +150,7 @@ impl Told {
         ensures ok { OnOk result (self.new ≡ kept_clock name rate self.old) }
         ensures err { OnErr result (self.new ≡ self.old) }
     {
-        if self.clocks.len() >= u32::MAX as usize {
+        if !are_few(self.clocks.len() + 1) {
             return Err(OutOfMemory);
         }
         self.clocks.insert(name, rate)?;
@@ -241,7 +249,7 @@ impl Told {
         ensures ok { OnOk result (self.new ≡ kept_name name self.old) }
         ensures err { OnErr result (self.new ≡ self.old) }
     {
-        if self.event_names.len() >= u32::MAX as usize {
+        if !are_few(self.event_names.len() + 1) {
             return Err(OutOfMemory);
         }
         let (place, _) = self.event_names.insert_full(name)?;

@@ -2,7 +2,7 @@
 ghost use Rattle.std.specs.Prelude.{◌≡◌, ◌<◌, [], length, nat_eq, option_map, position, slice_get, unwrap_or, IfNone, IfSome, None, Some};
 ghost use Rattle.std.specs.Map.{keys_of, lookup};
 ghost use Rattle.type_table.specs.Table.{name_at};
-ghost use Rattle.type_table.specs.ToldKept.{IfHere, IsRate, PlaceIn, StreamIn, EventIn, ToldIn, same_event};
+ghost use Rattle.type_table.specs.ToldKept.{IfHere, IsRate, IsSoundMeta, PlaceIn, StreamIn, EventIn, ToldIn, same_event};
 
 use crate::table::Table;
 use crate::told::{ClockRate, EventId, EventParts, StreamScopes, Told};
@@ -47,6 +47,14 @@ impl TraceMeta {
             table,
             told,
         }
+    }
+
+    /// What holds of each trace's declarations, for those who speak of them by their parts. It does nothing.
+    pub fn is_sound(&self)
+        ensures { IsSoundMeta self.now }
+    {
+        self.table.is_sound();
+        self.told.are_few();
     }
 
     /// The byte order of integers that don't tell their own.

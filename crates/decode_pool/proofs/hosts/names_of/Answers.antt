@@ -1,5 +1,5 @@
-use Rattle.std.proofs.Common.{◌∙◌, sym}
-use Rattle.kernel_layout.proofs.Names.{all_taken}
+use Rattle.std.proofs.Common.{◌∙◌, sym, arith}
+use Rattle.kernel_layout.proofs.Names.{all_taken, number_within}
 use Rattle.decode_pool.proofs.Taken.{next_taken}
 use Rattle.decode_pool.proofs.hosts.names_of.Goals as goal
 
@@ -8,3 +8,9 @@ loop-name-preserved c = rw (c.in_ok-push.ensures.items, c.loop-name.invariant, c
 
 pub returns : goal.returns
 returns c = c.loop-name.invariant ∙ all_taken c.args.meta.now.told.event_names c.loop-name.number c.in_default.ensures.none
+
+pub overflow_add-number : goal.overflow_add-number
+overflow_add-number c =
+    let within = number_within c.args.meta.now.told.event_names c.loop-name.number c.in-Some.name.now c.in-Some.ensures.found in
+    let few = c.is_sound.ensures.told.names in
+    omega (arith, within, few)

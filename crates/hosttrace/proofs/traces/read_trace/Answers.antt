@@ -16,4 +16,4 @@ returns-clause-fails g c =
     IfErr-weaker c.merge_of.result _ _ (λ status f. merge_fails (g.S.Store.holds c.args.store.now) c.args.dir.now c.in_ok-host.host (g.S.Store.faults c.args.store.now) (g.S.Store.faults c.read_host_files.new.store) status here f) c.merge_of.ensures.fails
 
 pub returns-clause-merge : goal.returns-clause-merge
-returns-clause-merge g c = IfOk-weaker c.merge_of.result _ _ (λ t h. merges c.in_ok-host.host t h) c.merge_of.ensures.trace
+returns-clause-merge g c = IfOk-weaker c.merge_of.result _ _ (λ t h. merges c.in_ok-host.host t h.1) c.merge_of.ensures.trace

@@ -1,6 +1,6 @@
-use Rattle.std.proofs.Common.{◌∙◌, sym, ap, map}
+use Rattle.std.proofs.Common.{◌∙◌, sym, ap, map, arith}
 use Rattle.kernel_layout.specs.Tracepoints.{tracepoint_of}
-use Rattle.kernel_layout.proofs.Names.{more_taken, all_taken}
+use Rattle.kernel_layout.proofs.Names.{more_taken, all_taken, number_within}
 use Rattle.kernel_layout.proofs.layout.Layout.new.Goals as goal
 
 pub loop-name-preserved : goal.loop-name-preserved
@@ -8,3 +8,9 @@ loop-name-preserved c = rw (c.in_ok-push.ensures.items, c.loop-name.invariant, c
 
 pub returns : goal.returns
 returns c = c.loop-name.invariant ∙ ap (map tracepoint_of) (all_taken c.args.meta.now.told.event_names c.loop-name.number c.in_default.ensures.none)
+
+pub overflow_add-number : goal.overflow_add-number
+overflow_add-number c =
+    let within = number_within c.args.meta.now.told.event_names c.loop-name.number c.in-Some.name.now c.in-Some.ensures.found in
+    let few = c.is_sound.ensures.told.names in
+    omega (arith, within, few)

@@ -11,7 +11,7 @@ returns-in-Some-clause-named c =
 
 pub invariant_of-self-2 : goal.invariant_of-self-2
 invariant_of-self-2 c =
-    let keeps = keeps_name c.self.inside.names.keys c.self.inside.types c.self.inside.facts c.in_ok-name.name c.self.invariant in
+    let keeps = keeps_name c.self.inside.names.keys c.self.inside.types c.self.inside.facts c.in_ok-name.name (search rules) c.self.invariant in
     subst (λ names. IsTable (record { names = names; types = c.self.inside.types }) c.self.inside.facts) (sym c.in_ok-insert_full.ensures.keys) keeps
 
 pub returns-clause-keeps : goal.returns-clause-keeps

@@ -26,7 +26,7 @@ returns-clause-keeps c =
 pub returns-clause-place : goal.returns-clause-place
 returns-clause-place c =
     let types : c.push-2.new.self ≡ c.self.inside.types ++ c.args.meta ∷ [] = search rules in
-    let place : c.in-Ok.place ≡ length c.self.inside.types = search rules in
+    let place : c.len-place.result ≡ length c.self.inside.types = search rules in
     let pushed = tree_pushed c.self.inside.names.keys c.self.inside.types c.args.meta in
     rw (types, place, sym c.self.view_is) (within_push c.self.inside.types c.args.meta, pushed)
 

@@ -1,0 +1,73 @@
+-- Fields that are read by two tables and stand for the same: the same values, names and types, each at places of its own table.
+use Rattle.std.proofs.Common.{◌≡◌, ℕ, ℤ, ◌<◌, List, [], ◌∷◌, Option, Some, None, length}
+use Rattle.type_table.specs.Table.{Table, tree, name_at}
+use Rattle.ctf_fields.specs.declared.around.Around.{Around}
+use Rattle.ctf_fields.specs.declared.around.Scopes.{Scopes}
+use Rattle.ctf_fields.specs.declared.field.Field.{Field, out-Field}
+use Rattle.ctf_fields.specs.declared.field.Field.TheOpen.{Field-F}
+use Rattle.ctf_fields.specs.declared.field.Member.{Member}
+use Rattle.ctf_fields.specs.Reading.{Reads, Got, Fails}
+
+-- places of one type
+pub record SameType (t u : Table) (a b : ℕ) : Type 0 where
+  pub left : a < length t.types
+  pub right : b < length u.types
+  pub same : tree t a ≡ tree u b
+
+-- numbers of one name
+abbrev pub SameName : Table → Table → ℕ → ℕ → Type 0
+SameName t u a b = name_at t.names a ≡ name_at u.names b
+
+module _ (t u : Table) where
+  mutual
+    pub data Alike : Field → Field → Type 0 where
+      ints : (f g : Field) (a b : ℕ) (z : ℤ) → SameType t u a b → out-Field f ≡ Field-F.Int a z → out-Field g ≡ Field-F.Int b z → Alike f g
+      texts : (f g : Field) (text : List ℕ) → out-Field f ≡ Field-F.Text text → out-Field g ≡ Field-F.Text text → Alike f g
+      structs : (f g : Field) (ms ns : List Member) → AlikeMembers ms ns → out-Field f ≡ Field-F.Struct ms → out-Field g ≡ Field-F.Struct ns → Alike f g
+      choices : (f g : Field) (a b : ℕ) (x y : Field) → SameName t u a b → Alike x y → out-Field f ≡ Field-F.Choice a x → out-Field g ≡ Field-F.Choice b y → Alike f g
+      lists : (f g : Field) (a b : ℕ) (xs ys : List Field) → SameType t u a b → AlikeItems xs ys → out-Field f ≡ Field-F.List a xs → out-Field g ≡ Field-F.List b ys → Alike f g
+
+    pub data AlikeMembers : List Member → List Member → Type 0 where
+      no_members : AlikeMembers [] []
+      and_member : (m n : Member) (ms ns : List Member) → SameName t u m.name n.name → Alike m.field n.field → AlikeMembers ms ns → AlikeMembers (m ∷ ms) (n ∷ ns)
+
+    pub data AlikeItems : List Field → List Field → Type 0 where
+      no_items : AlikeItems [] []
+      and_item : (x y : Field) (xs ys : List Field) → Alike x y → AlikeItems xs ys → AlikeItems (x ∷ xs) (y ∷ ys)
+
+-- of fields that may be there
+abbrev pub AlikeIf : Table → Table → Option Field → Option Field → Type 0
+AlikeIf t u None None = Unit {0}
+AlikeIf t u (Some f) (Some g) = Alike t u f g
+AlikeIf t u _ _ = ⊥
+
+-- of numbers with the places of their types
+abbrev pub AlikeNumbers : Table → Table → Option (ℤ × ℕ) → Option (ℤ × ℕ) → Type 0
+AlikeNumbers t u None None = Unit {0}
+AlikeNumbers t u (Some n) (Some m) = (n.0 ≡ m.0) × SameType t u n.1 m.1
+AlikeNumbers t u _ _ = ⊥
+
+abbrev pub AlikeNames : Table → Table → Option ℕ → Option ℕ → Type 0
+AlikeNames t u None None = Unit {0}
+AlikeNames t u (Some a) (Some b) = SameName t u a b
+AlikeNames t u _ _ = ⊥
+
+-- of the structures that are being read
+abbrev pub AlikeAround : Table → Table → List Around → List Around → Type 0
+AlikeAround t u [] [] = Unit {0}
+AlikeAround t u (a ∷ more) (b ∷ others) = (AlikeNames t u a.name b.name × AlikeMembers t u a.fields b.fields) × AlikeAround t u more others
+AlikeAround t u _ _ = ⊥
+
+pub record AlikeScopes (t u : Table) (s r : Scopes) : Type 0 where
+  pub packet_header : AlikeIf t u s.packet_header r.packet_header
+  pub packet_context : AlikeIf t u s.packet_context r.packet_context
+  pub event_header : AlikeIf t u s.event_header r.event_header
+  pub stream_context : AlikeIf t u s.stream_context r.stream_context
+  pub event_context : AlikeIf t u s.event_context r.event_context
+  pub event_fields : AlikeIf t u s.event_fields r.event_fields
+
+-- two readings end at one place with values of which this holds, or fail for one cause
+abbrev pub ReadBoth : {A B : Type 0} → (A → B → Type 0) → Reads A → Reads B → Type 0
+ReadBoth P (Got a at) (Got b to) = P a b × (at ≡ to)
+ReadBoth P (Fails c) (Fails d) = c ≡ d
+ReadBoth P _ _ = ⊥
