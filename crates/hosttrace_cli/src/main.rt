@@ -7,7 +7,7 @@ use std::process::ExitCode;
 use std::{env, io};
 
 fn main(rt: HostRuntime) -> ExitCode {
-    let mut store = FolderStore { rt: &rt, faults: 0 };
+    let mut store = FolderStore::new(&rt);
     let (stdout, stderr) = (rt.stdout(), rt.stderr());
     let mut out = StdSink {
         to: io::writer(&stdout),

@@ -6,6 +6,7 @@ mod folder_store;
 mod gate;
 mod memory_sink;
 mod memory_store;
+mod opened_file;
 mod sink;
 mod std_sink;
 mod store;

@@ -1,11 +1,9 @@
 //! A sink over a writer of std, as standard output.
-ghost use Rattle.std.specs.Prelude.{None};
-
 use crate::{Sink, SinkError};
 use std::io::Write;
 
-/// Hands pieces to a writer. It tells nothing of what is written there. A write that fails or takes
-/// nothing is a fault, and the count of faults stands still at its greatest number.
+/// Hands pieces to a writer. It tells of what is written there what the writer tells, and standard
+/// output tells nothing. A write that fails or takes nothing is a fault, and the count of faults stands still at its greatest number.
 #[derive(Drop)]
 pub struct StdSink<W> {
     pub to: W,
@@ -13,7 +11,7 @@ pub struct StdSink<W> {
 }
 
 impl<W: Write> Sink for StdSink<W> {
-    ghost contents = { λ _. None };
+    ghost contents = { λ s. W.contents s.to };
 
     ghost faults = { λ s. s.faults };
 
