@@ -40,7 +40,7 @@ place_within (q ∷ qs) p = by (same_path p q) (place_within qs p)
     by true h = omega arith
     by false h = omega (arith, h)
 
--- a number is a path's place, and a path without one has the place behind all
+-- a number is a path's place, and a path without one has the place after all
 pub number_place : (paths : List AttributePath) (p : AttributePath) (n : ℕ) → number_among paths p ≡ Some n → (position_or_len (same_path p) paths ≡ n) × (n < length paths)
 number_place paths p n e = by (nat_lt (position_or_len (same_path p) paths) (length paths)) refl e
   where

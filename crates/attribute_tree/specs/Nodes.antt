@@ -90,7 +90,7 @@ abbrev pub nexts : ℕ → List Prefix → List (Option ℕ)
 nexts k [] = []
 nexts k (p ∷ ps) = first_of (places (is_sibling p) (suc k) ps) ∷ nexts (suc k) ps
 
--- the siblings of a node that were made behind it
+-- the siblings of a node that were made after it
 abbrev pub siblings_at : ℕ → ℕ → List Prefix → List ℕ
 siblings_at k n [] = []
 siblings_at k zero (p ∷ ps) = places (is_sibling p) (suc k) ps

@@ -47,7 +47,7 @@ impl Attributes {
         }
     }
 
-    /// Makes room for one more path. The only error is want of memory.
+    /// Makes room for one more path. The only error is lack of memory.
     pub fn reserve(&mut self) -> Result<(), OutOfMemory>
         ensures paths { self.new.paths ≡ self.old.paths }
         ensures room { OnOk result (self.new.has_room ≡ true) }

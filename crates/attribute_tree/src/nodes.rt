@@ -45,7 +45,7 @@ impl Nodes {
         }
     }
 
-    /// Makes room for so many more nodes. The only error is want of memory.
+    /// Makes room for so many more nodes. The only error is lack of memory.
     pub fn reserve(&mut self, more: usize) -> Result<(), OutOfMemory>
         ensures nodes { self.new.nodes ≡ self.old.nodes }
         ensures room { OnOk result (more ≤ self.new.room) }

@@ -130,7 +130,7 @@ fn parse_folder_ask(alloc: Global, questions: &[u8], folder: &[u8]) -> Result<Co
     Ok(Command::Plain(PlainCommand::Ask { input, questions }))
 }
 
-// The words behind the name of the command over folders, where that is the first.
+// The words after the name of the command over folders, where that is the first.
 fn words_of_check(words: &[String]) -> Option<&[String]>
     ensures found { IfSome result (λ folders. map string_bytes words.now ≡ codes "check" ∷ map string_bytes folders.now) }
     ensures none { IfNone result (get_or (map string_bytes words.now) 0 [] ≢ codes "check") }

@@ -1,8 +1,8 @@
 -- Fields that are read by two tables and stand for the same: the same values, names and types, each at places of its own table.
 use Rattle.std.proofs.Common.{◌≡◌, ℕ, ℤ, ◌<◌, List, [], ◌∷◌, Option, Some, None, length}
 use Rattle.type_table.specs.Table.{Table, tree, name_at}
-use Rattle.ctf_fields.specs.declared.around.Around.{Around}
-use Rattle.ctf_fields.specs.declared.around.Scopes.{Scopes}
+use Rattle.ctf_fields.specs.declared.open_struct.OpenStruct.{OpenStruct}
+use Rattle.ctf_fields.specs.declared.open_struct.Scopes.{Scopes}
 use Rattle.ctf_fields.specs.declared.field.Field.{Field, out-Field}
 use Rattle.ctf_fields.specs.declared.field.Field.TheOpen.{Field-F}
 use Rattle.ctf_fields.specs.declared.field.Member.{Member}
@@ -53,10 +53,10 @@ AlikeNames t u (Some a) (Some b) = SameName t u a b
 AlikeNames t u _ _ = ⊥
 
 -- of the structures that are being read
-abbrev pub AlikeAround : Table → Table → List Around → List Around → Type 0
-AlikeAround t u [] [] = Unit {0}
-AlikeAround t u (a ∷ more) (b ∷ others) = (AlikeNames t u a.name b.name × AlikeMembers t u a.fields b.fields) × AlikeAround t u more others
-AlikeAround t u _ _ = ⊥
+abbrev pub AlikeOpenStructs : Table → Table → List OpenStruct → List OpenStruct → Type 0
+AlikeOpenStructs t u [] [] = Unit {0}
+AlikeOpenStructs t u (a ∷ more) (b ∷ others) = (AlikeNames t u a.name b.name × AlikeMembers t u a.fields b.fields) × AlikeOpenStructs t u more others
+AlikeOpenStructs t u _ _ = ⊥
 
 pub record AlikeScopes (t u : Table) (s r : Scopes) : Type 0 where
   pub packet_header : AlikeIf t u s.packet_header r.packet_header

@@ -1,4 +1,4 @@
--- Where ways lead and what is found by names, among fields that are alike: to fields that are alike, or to none in either.
+-- Where field paths lead and what is found by names, among fields that are alike: to fields that are alike, or to none in either.
 use Rattle.std.proofs.Common.{◌≡◌, ◌∙◌, ℕ, ℤ, zero, suc, List, [], ◌∷◌, ◌++◌, Option, Some, None, Bool, true, false, if◌then◌else◌, option_map, reverse, ap, refl, sym, subst, subst₂}
 use Rattle.std.proofs.lemmas.List.{reverse-append}
 use Rattle.type_table.specs.Names.{same_name}
@@ -10,12 +10,12 @@ use Rattle.type_table.specs.declared.meta.ScopeName.TheVariants.{PacketHeader, P
 use Rattle.ctf_fields.specs.Fields.{field_by, field_of, follow, from_here, from_inside, from_outside, from_scope, is_entered, member, member_of, nearest, number_in, number_of, or_else, same, scope_field}
 use Rattle.ctf_fields.specs.Named.{Within, first_at, first_by, first_in, first_member, first_named, last_at, last_by, last_in, last_member, last_named}
 use Rattle.ctf_fields.specs.Values.{number_named, value_named}
-use Rattle.ctf_fields.specs.declared.around.Around.{Around}
-use Rattle.ctf_fields.specs.declared.around.Scopes.{Scopes}
+use Rattle.ctf_fields.specs.declared.open_struct.OpenStruct.{OpenStruct}
+use Rattle.ctf_fields.specs.declared.open_struct.Scopes.{Scopes}
 use Rattle.ctf_fields.specs.declared.field.Field.{Field, out-Field}
 use Rattle.ctf_fields.specs.declared.field.Field.TheOpen.{Field-F}
 use Rattle.ctf_fields.specs.declared.field.Member.{Member}
-use Rattle.ctf_fields.proofs.Alike.{Alike, AlikeAround, AlikeIf, AlikeItems, AlikeMembers, AlikeNames, AlikeNumbers, AlikeScopes, SameName, SameType, ints, texts, structs, choices, lists, no_members, and_member}
+use Rattle.ctf_fields.proofs.Alike.{Alike, AlikeOpenStructs, AlikeIf, AlikeItems, AlikeMembers, AlikeNames, AlikeNumbers, AlikeScopes, SameName, SameType, ints, texts, structs, choices, lists, no_members, and_member}
 use Rattle.ctf_fields.proofs.SameTypes.{SameReference, SameWords, and_word, no_words}
 
 -- ---- fields opened by one level
@@ -88,64 +88,64 @@ follow_alike t u f g (and_word w v ws vs name words) alike = follow_alike t u (m
 -- ---- structures that are being read
 
 -- the field of a name of the innermost structure that has one
-pub from_inside_alike : (t u : Table) (a b : ℕ) (around others : List Around) → SameName t u a b → AlikeAround t u around others → AlikeIf t u (from_inside t.names a around) (from_inside u.names b others)
+pub from_inside_alike : (t u : Table) (a b : ℕ) (open_structs others : List OpenStruct) → SameName t u a b → AlikeOpenStructs t u open_structs others → AlikeIf t u (from_inside t.names a open_structs) (from_inside u.names b others)
 from_inside_alike t u a b [] [] same alike = tt
 from_inside_alike t u a b [] (o ∷ others) same alike = absurd alike
-from_inside_alike t u a b (o ∷ around) [] same alike = absurd alike
-from_inside_alike t u a b (o ∷ around) (p ∷ others) same alike = or_alike t u _ _ _ _ (nearest_alike t u a b same alike.0.1) (from_inside_alike t u a b around others same alike.1)
+from_inside_alike t u a b (o ∷ open_structs) [] same alike = absurd alike
+from_inside_alike t u a b (o ∷ open_structs) (p ∷ others) same alike = or_alike t u _ _ _ _ (nearest_alike t u a b same alike.0.1) (from_inside_alike t u a b open_structs others same alike.1)
 
--- a way from the innermost structure outward leads to fields that are alike
-pub from_here_alike : (t u : Table) {ws vs : List ℕ} (around others : List Around) → AlikeAround t u around others → SameWords t u ws vs → AlikeIf t u (from_here t.names around ws) (from_here u.names others vs)
-from_here_alike t u around others alike no_words = tt
-from_here_alike t u around others alike (and_word w v ws vs name words) = follow_alike t u _ _ words (from_inside_alike t u w v around others name alike)
+-- a field path from the innermost structure outward leads to fields that are alike
+pub from_here_alike : (t u : Table) {ws vs : List ℕ} (open_structs others : List OpenStruct) → AlikeOpenStructs t u open_structs others → SameWords t u ws vs → AlikeIf t u (from_here t.names open_structs ws) (from_here u.names others vs)
+from_here_alike t u open_structs others alike no_words = tt
+from_here_alike t u open_structs others alike (and_word w v ws vs name words) = follow_alike t u _ _ words (from_inside_alike t u w v open_structs others name alike)
 
 -- one structure inside others
-entered_by : (t u : Table) (a b : ℕ) (x y : Option ℕ) (ms ns : List Member) (around others : List Around) → SameName t u a b → AlikeNames t u x y
-    → is_entered t.names a (record { name = x; fields = ms } ∷ around) ≡ is_entered u.names b (record { name = y; fields = ns } ∷ others)
-entered_by t u a b None None ms ns around others same alike = refl
-entered_by t u a b (Some x) (Some y) ms ns around others same alike = same_alike t u a b x y same alike
-entered_by t u a b None (Some y) ms ns around others same alike = absurd alike
-entered_by t u a b (Some x) None ms ns around others same alike = absurd alike
+entered_by : (t u : Table) (a b : ℕ) (x y : Option ℕ) (ms ns : List Member) (open_structs others : List OpenStruct) → SameName t u a b → AlikeNames t u x y
+    → is_entered t.names a (record { name = x; fields = ms } ∷ open_structs) ≡ is_entered u.names b (record { name = y; fields = ns } ∷ others)
+entered_by t u a b None None ms ns open_structs others same alike = refl
+entered_by t u a b (Some x) (Some y) ms ns open_structs others same alike = same_alike t u a b x y same alike
+entered_by t u a b None (Some y) ms ns open_structs others same alike = absurd alike
+entered_by t u a b (Some x) None ms ns open_structs others same alike = absurd alike
 
 -- the structure inside is entered by a name in both, or in neither
-pub entered_alike : (t u : Table) (a b : ℕ) (around others : List Around) → SameName t u a b → AlikeAround t u around others → is_entered t.names a around ≡ is_entered u.names b others
+pub entered_alike : (t u : Table) (a b : ℕ) (open_structs others : List OpenStruct) → SameName t u a b → AlikeOpenStructs t u open_structs others → is_entered t.names a open_structs ≡ is_entered u.names b others
 entered_alike t u a b [] [] same alike = refl
 entered_alike t u a b [] (o ∷ others) same alike = absurd alike
-entered_alike t u a b (o ∷ around) [] same alike = absurd alike
-entered_alike t u a b (o ∷ around) (p ∷ others) same alike = entered_by t u a b o.name p.name o.fields p.fields around others same alike.0.0
+entered_alike t u a b (o ∷ open_structs) [] same alike = absurd alike
+entered_alike t u a b (o ∷ open_structs) (p ∷ others) same alike = entered_by t u a b o.name p.name o.fields p.fields open_structs others same alike.0.0
 
--- a way from the outermost structure inward leads to fields that are alike
-pub from_outside_alike : (t u : Table) {ws vs : List ℕ} (around others : List Around) → AlikeAround t u around others → SameWords t u ws vs → AlikeIf t u (from_outside t.names around ws) (from_outside u.names others vs)
+-- a field path from the outermost structure inward leads to fields that are alike
+pub from_outside_alike : (t u : Table) {ws vs : List ℕ} (open_structs others : List OpenStruct) → AlikeOpenStructs t u open_structs others → SameWords t u ws vs → AlikeIf t u (from_outside t.names open_structs ws) (from_outside u.names others vs)
 from_outside_alike t u [] [] alike words = tt
 from_outside_alike t u [] (o ∷ others) alike words = absurd alike
-from_outside_alike t u (o ∷ around) [] alike words = absurd alike
-from_outside_alike t u (o ∷ around) (p ∷ others) alike no_words = tt
-from_outside_alike t u (o ∷ around) (p ∷ others) alike (and_word w v ws vs name words) =
-    if_alike t u _ _ _ _ _ _ (entered_alike t u w v around others name alike.1) (from_outside_alike t u around others alike.1 words) (follow_alike t u _ _ words (nearest_alike t u w v name alike.0.1))
+from_outside_alike t u (o ∷ open_structs) [] alike words = absurd alike
+from_outside_alike t u (o ∷ open_structs) (p ∷ others) alike no_words = tt
+from_outside_alike t u (o ∷ open_structs) (p ∷ others) alike (and_word w v ws vs name words) =
+    if_alike t u _ _ _ _ _ _ (entered_alike t u w v open_structs others name alike.1) (from_outside_alike t u open_structs others alike.1 words) (follow_alike t u _ _ words (nearest_alike t u w v name alike.0.1))
 
--- one more structure behind the others
-around_push : (t u : Table) (around others : List Around) (o p : Around) → AlikeAround t u around others → AlikeNames t u o.name p.name × AlikeMembers t u o.fields p.fields → AlikeAround t u (around ++ o ∷ []) (others ++ p ∷ [])
+-- one more structure after the others
+around_push : (t u : Table) (open_structs others : List OpenStruct) (o p : OpenStruct) → AlikeOpenStructs t u open_structs others → AlikeNames t u o.name p.name × AlikeMembers t u o.fields p.fields → AlikeOpenStructs t u (open_structs ++ o ∷ []) (others ++ p ∷ [])
 around_push t u [] [] o p alike last = (last, tt)
 around_push t u [] (q ∷ others) o p alike last = absurd alike
-around_push t u (q ∷ around) [] o p alike last = absurd alike
-around_push t u (q ∷ around) (r ∷ others) o p alike last = (alike.0, around_push t u around others o p alike.1 last)
+around_push t u (q ∷ open_structs) [] o p alike last = absurd alike
+around_push t u (q ∷ open_structs) (r ∷ others) o p alike last = (alike.0, around_push t u open_structs others o p alike.1 last)
 
 -- structures are alike in either order
-pub reverse_alike : (t u : Table) (around others : List Around) → AlikeAround t u around others → AlikeAround t u (reverse around) (reverse others)
+pub reverse_alike : (t u : Table) (open_structs others : List OpenStruct) → AlikeOpenStructs t u open_structs others → AlikeOpenStructs t u (reverse open_structs) (reverse others)
 reverse_alike t u [] [] alike = tt
 reverse_alike t u [] (o ∷ others) alike = absurd alike
-reverse_alike t u (o ∷ around) [] alike = absurd alike
-reverse_alike t u (o ∷ around) (p ∷ others) alike =
-    subst₂ (AlikeAround t u) (sym (reverse-append (o ∷ []) around)) (sym (reverse-append (p ∷ []) others)) (around_push t u (reverse around) (reverse others) o p (reverse_alike t u around others alike.1) alike.0)
+reverse_alike t u (o ∷ open_structs) [] alike = absurd alike
+reverse_alike t u (o ∷ open_structs) (p ∷ others) alike =
+    subst₂ (AlikeOpenStructs t u) (sym (reverse-append (o ∷ []) open_structs)) (sym (reverse-append (p ∷ []) others)) (around_push t u (reverse open_structs) (reverse others) o p (reverse_alike t u open_structs others alike.1) alike.0)
 
 -- ---- scopes
 
--- a way into a scope leads to fields that are alike
-pub from_scope_alike : (t u : Table) {ws vs : List ℕ} (f g : Option Field) (around others : List Around) → AlikeIf t u f g → AlikeAround t u around others → SameWords t u ws vs → AlikeIf t u (from_scope t.names f around ws) (from_scope u.names g others vs)
-from_scope_alike t u None None around others alike here words = from_outside_alike t u (reverse around) (reverse others) (reverse_alike t u around others here) words
-from_scope_alike t u (Some f) (Some g) around others alike here words = follow_alike t u (Some f) (Some g) words alike
-from_scope_alike t u None (Some g) around others alike here words = absurd alike
-from_scope_alike t u (Some f) None around others alike here words = absurd alike
+-- a field path into a scope leads to fields that are alike
+pub from_scope_alike : (t u : Table) {ws vs : List ℕ} (f g : Option Field) (open_structs others : List OpenStruct) → AlikeIf t u f g → AlikeOpenStructs t u open_structs others → SameWords t u ws vs → AlikeIf t u (from_scope t.names f open_structs ws) (from_scope u.names g others vs)
+from_scope_alike t u None None open_structs others alike here words = from_outside_alike t u (reverse open_structs) (reverse others) (reverse_alike t u open_structs others here) words
+from_scope_alike t u (Some f) (Some g) open_structs others alike here words = follow_alike t u (Some f) (Some g) words alike
+from_scope_alike t u None (Some g) open_structs others alike here words = absurd alike
+from_scope_alike t u (Some f) None open_structs others alike here words = absurd alike
 
 -- each scope has fields that are alike
 pub scope_alike : (t u : Table) (s r : Scopes) (scope : ScopeName) → AlikeScopes t u s r → AlikeIf t u (scope_field scope s) (scope_field scope r)
@@ -156,17 +156,17 @@ scope_alike t u s r StreamContext alike = alike.stream_context
 scope_alike t u s r EventContext alike = alike.event_context
 scope_alike t u s r EventFields alike = alike.event_fields
 
--- a way from a scope, or from none, leads to fields that are alike
-by_alike : (t u : Table) (s r : Scopes) (around others : List Around) (scope : Option ScopeName) {ws vs : List ℕ} → AlikeScopes t u s r → AlikeAround t u around others → SameWords t u ws vs
-    → AlikeIf t u (field_by t.names s around scope ws) (field_by u.names r others scope vs)
-by_alike t u s r around others None alike here words = from_here_alike t u around others here words
-by_alike t u s r around others (Some scope) alike here words = from_scope_alike t u _ _ around others (scope_alike t u s r scope alike) here words
+-- a field path from a scope, or from none, leads to fields that are alike
+by_alike : (t u : Table) (s r : Scopes) (open_structs others : List OpenStruct) (scope : Option ScopeName) {ws vs : List ℕ} → AlikeScopes t u s r → AlikeOpenStructs t u open_structs others → SameWords t u ws vs
+    → AlikeIf t u (field_by t.names s open_structs scope ws) (field_by u.names r others scope vs)
+by_alike t u s r open_structs others None alike here words = from_here_alike t u open_structs others here words
+by_alike t u s r open_structs others (Some scope) alike here words = from_scope_alike t u _ _ open_structs others (scope_alike t u s r scope alike) here words
 
 -- the same reference leads to fields that are alike
-pub field_alike : (t u : Table) (s r : Scopes) (around others : List Around) (way path : Reference) → AlikeScopes t u s r → AlikeAround t u around others → SameReference t u way path
-    → AlikeIf t u (field_of t.names s around way) (field_of u.names r others path)
-field_alike t u s r around others way path alike here same =
-    subst (λ scope. AlikeIf t u (field_of t.names s around way) (field_by u.names r others scope path.words)) same.scope (by_alike t u s r around others way.scope alike here same.words)
+pub field_alike : (t u : Table) (s r : Scopes) (open_structs others : List OpenStruct) (field_path path : Reference) → AlikeScopes t u s r → AlikeOpenStructs t u open_structs others → SameReference t u field_path path
+    → AlikeIf t u (field_of t.names s open_structs field_path) (field_of u.names r others path)
+field_alike t u s r open_structs others field_path path alike here same =
+    subst (λ scope. AlikeIf t u (field_of t.names s open_structs field_path) (field_by u.names r others scope path.words)) same.scope (by_alike t u s r open_structs others field_path.scope alike here same.words)
 
 -- ---- numbers
 

@@ -2,8 +2,8 @@
 use Rattle.std.proofs.Common.{◌≡◌, ◌∙◌, ℕ, zero, suc, ◌<◌, List, [], ◌∷◌, Option, Some, None, Bool, if◌then◌else◌, get_or, length, map, slice_get, ap, refl, sym, subst, subst₂, lt-ltb}
 use Rattle.std.proofs.lemmas.Option.{slice_get-get_or}
 use Rattle.trace_types.specs.declared.byte_order.ByteOrderKind.{ByteOrderKind}
-use Rattle.type_table.specs.Table.{AreBased, FieldsIn, IsBased, IsSoundTable, IsWhole, RefersIn, Table, fields_at, integer_in, labels_at, name_at, shape, tree, trees, way_by, way_of, way_or_here}
-use Rattle.type_table.specs.Types.{Label, Text, Ty, Way, alignment}
+use Rattle.type_table.specs.Table.{AreBased, FieldsIn, IsBased, IsSoundTable, IsWhole, RefersIn, Table, fields_at, integer_in, labels_at, name_at, shape, tree, trees, field_path_by, field_path_of, field_path_or_here}
+use Rattle.type_table.specs.Types.{Label, Text, Ty, FieldPath, alignment}
 use Rattle.type_table.specs.declared.integer.Integer.{Integer}
 use Rattle.type_table.specs.declared.meta.FieldMeta.{FieldMeta}
 use Rattle.type_table.specs.declared.meta.LabelMeta.{LabelMeta}
@@ -24,7 +24,7 @@ pub data SameWords (t u : Table) : List ℕ → List ℕ → Type 0 where
   no_words : SameWords t u [] []
   and_word : (w v : ℕ) (ws vs : List ℕ) → SameName t u w v → SameWords t u ws vs → SameWords t u (w ∷ ws) (v ∷ vs)
 
--- ways from one scope by the same names
+-- field paths from one scope by the same names
 pub record SameReference (t u : Table) (r s : Reference) : Type 0 where
   pub scope : r.scope ≡ s.scope
   pub words : SameWords t u r.words s.words
@@ -74,16 +74,16 @@ same_words t u [] (v ∷ vs) e = absurd (cc)
 same_words t u (w ∷ ws) [] e = absurd (cc)
 same_words t u (w ∷ ws) (v ∷ vs) e = and_word w v ws vs (head_of _ _ _ _ e) (same_words t u ws vs (tail_of _ _ _ _ e))
 
--- each way is one of a scope, or none, and of words, where the empty one counts as one from here
-way_is : (scope : Option ScopeName) (ws : List Text) → way_or_here (way_by scope ws) ≡ record { scope = scope; names = ws }
+-- each field path is one of a scope, or none, and of words, where the empty one counts as one from here
+way_is : (scope : Option ScopeName) (ws : List Text) → field_path_or_here (field_path_by scope ws) ≡ record { scope = scope; names = ws }
 way_is None [] = refl
 way_is None (w ∷ ws) = refl
 way_is (Some scope) ws = refl
 
--- references that are one way are from one scope by the same names
-same_reference : (t u : Table) (r s : Reference) → way_or_here (way_of t.names r) ≡ way_or_here (way_of u.names s) → SameReference t u r s
+-- references that are one field path are from one scope by the same names
+same_reference : (t u : Table) (r s : Reference) → field_path_or_here (field_path_of t.names r) ≡ field_path_or_here (field_path_of u.names s) → SameReference t u r s
 same_reference t u r s e =
-    let same : Path Way (record { scope = r.scope; names = map (name_at t.names) r.words }) (record { scope = s.scope; names = map (name_at u.names) s.words })
+    let same : Path FieldPath (record { scope = r.scope; names = map (name_at t.names) r.words }) (record { scope = s.scope; names = map (name_at u.names) s.words })
     = sym (way_is r.scope (map (name_at t.names) r.words)) ∙ e ∙ way_is s.scope (map (name_at u.names) s.words) in
     record { scope = ap (λ w. w.scope) same; words = same_words t u r.words s.words (ap (λ w. w.names) same) }
 
@@ -151,17 +151,17 @@ same_shapes t u (meta.Struct align fs) (meta.Struct align' gs) here there left r
     let fields : fields_at t.names (trees t) fs ≡ fields_at u.names (trees u) gs = cc in
     structs align align' fs gs aligned (same_fields t u fs gs left right fields)
 same_shapes t u (meta.Variant r fs) (meta.Variant s gs) here there left right based based' e =
-    let way : way_of t.names r ≡ way_of u.names s = cc in
+    let field_path : field_path_of t.names r ≡ field_path_of u.names s = cc in
     let fields : fields_at t.names (trees t) fs ≡ fields_at u.names (trees u) gs = cc in
-    variants r s fs gs (same_reference t u r s (ap way_or_here way)) (same_fields t u fs gs left right fields)
+    variants r s fs gs (same_reference t u r s (ap field_path_or_here field_path)) (same_fields t u fs gs left right fields)
 same_shapes t u (meta.Array n a) (meta.Array m b) here there left right based based' e =
     let count : n ≡ m = cc in
     let item : tree t a ≡ tree u b = cc in
     arrays n m a b count (record { left = left; right = right; same = item })
 same_shapes t u (meta.Sequence r a) (meta.Sequence s b) here there left right based based' e =
-    let way : way_or_here (way_of t.names r) ≡ way_or_here (way_of u.names s) = cc in
+    let field_path : field_path_or_here (field_path_of t.names r) ≡ field_path_or_here (field_path_of u.names s) = cc in
     let item : tree t a ≡ tree u b = cc in
-    sequences r s a b (same_reference t u r s way) (record { left = left; right = right; same = item })
+    sequences r s a b (same_reference t u r s field_path) (record { left = left; right = right; same = item })
 same_shapes t u _ _ here there left right based based' e = absurd (cc)
 
 -- the types at two places, which are of one kind with the same parts

@@ -1,4 +1,4 @@
--- Where the way of a tag or a length leads among fields that were read (CTF 1.8, section 7.3.2). Names are numbers in a list of names.
+-- Where the field path of a tag or a length leads among fields that were read (CTF 1.8, section 7.3.2). Names are numbers in a list of names.
 use Rattle.std.specs.Prelude.{ℕ, ℤ, Bool, false, List, [], ◌∷◌, ◌++◌, Option, Some, None, reverse, if◌then◌else◌}
 use Rattle.type_table.specs.Names.{same_name}
 use Rattle.type_table.specs.Table.{name_at}
@@ -6,8 +6,8 @@ use Rattle.type_table.specs.Types.{Text}
 use Rattle.type_table.specs.declared.meta.Reference.{Reference}
 use Rattle.type_table.specs.declared.meta.ScopeName.{ScopeName}
 use Rattle.type_table.specs.declared.meta.ScopeName.TheVariants.{PacketHeader, PacketContext, EventHeader, StreamContext, EventContext, EventFields}
-use Rattle.ctf_fields.specs.declared.around.Around.{Around}
-use Rattle.ctf_fields.specs.declared.around.Scopes.{Scopes}
+use Rattle.ctf_fields.specs.declared.open_struct.OpenStruct.{OpenStruct}
+use Rattle.ctf_fields.specs.declared.open_struct.Scopes.{Scopes}
 use Rattle.ctf_fields.specs.declared.field.Field.{Field, out-Field}
 use Rattle.ctf_fields.specs.declared.field.Field.TheOpen.{Field-F}
 use Rattle.ctf_fields.specs.declared.field.Member.{Member}
@@ -40,15 +40,15 @@ follow names f [] = f
 follow names f (name ∷ words) = follow names (member names name f) words
 
 -- the fields that the innermost structure has so far, and with one more; the structures around it
-abbrev pub fields_of : List Around → List Member
+abbrev pub fields_of : List OpenStruct → List Member
 fields_of [] = []
 fields_of (a ∷ more) = a.fields
 
-abbrev pub with_member : Member → List Around → List Around
+abbrev pub with_member : Member → List OpenStruct → List OpenStruct
 with_member m [] = []
 with_member m (a ∷ more) = record { name = a.name; fields = a.fields ++ m ∷ [] } ∷ more
 
-abbrev pub outer : List Around → List Around
+abbrev pub outer : List OpenStruct → List OpenStruct
 outer [] = []
 outer (a ∷ more) = more
 
@@ -61,17 +61,17 @@ scope_field EventContext s = s.event_context
 scope_field EventFields s = s.event_fields
 
 -- the field of a name of the innermost structure that has one
-abbrev pub from_inside : List Text → ℕ → List Around → Option Field
+abbrev pub from_inside : List Text → ℕ → List OpenStruct → Option Field
 from_inside names name [] = None
 from_inside names name (a ∷ more) = or_else (nearest names name a.fields) (from_inside names name more)
 
--- a way from the innermost structure outward
-abbrev pub from_here : List Text → List Around → List ℕ → Option Field
-from_here names around [] = None
-from_here names around (name ∷ words) = follow names (from_inside names name around) words
+-- a field path from the innermost structure outward
+abbrev pub from_here : List Text → List OpenStruct → List ℕ → Option Field
+from_here names open_structs [] = None
+from_here names open_structs (name ∷ words) = follow names (from_inside names name open_structs) words
 
 -- the structure inside the others is a field of this name of the one around it
-abbrev pub is_entered : List Text → ℕ → List Around → Bool
+abbrev pub is_entered : List Text → ℕ → List OpenStruct → Bool
 is_entered names name [] = false
 is_entered names name (a ∷ more) = by a.name
   where
@@ -79,24 +79,24 @@ is_entered names name (a ∷ more) = by a.name
     by None = false
     by (Some inner) = same names name inner
 
--- a way from the outermost structure inward, through those that are being read
-abbrev pub from_outside : List Text → List Around → List ℕ → Option Field
+-- a field path from the outermost structure inward, through those that are being read
+abbrev pub from_outside : List Text → List OpenStruct → List ℕ → Option Field
 from_outside names [] words = None
 from_outside names (a ∷ more) [] = None
 from_outside names (a ∷ more) (name ∷ words) = if is_entered names name more then from_outside names more words else follow names (nearest names name a.fields) words
 
--- a way into a scope: into its field, where it was read before; else it is the scope that is being read
-abbrev pub from_scope : List Text → Option Field → List Around → List ℕ → Option Field
-from_scope names (Some f) around words = follow names (Some f) words
-from_scope names None around words = from_outside names (reverse around) words
+-- a field path into a scope: into its field, where it was read before; else it is the scope that is being read
+abbrev pub from_scope : List Text → Option Field → List OpenStruct → List ℕ → Option Field
+from_scope names (Some f) open_structs words = follow names (Some f) words
+from_scope names None open_structs words = from_outside names (reverse open_structs) words
 
--- where a way leads, with the structures that are being read, the innermost first
-abbrev pub field_by : List Text → Scopes → List Around → Option ScopeName → List ℕ → Option Field
-field_by names scopes around None words = from_here names around words
-field_by names scopes around (Some scope) words = from_scope names (scope_field scope scopes) around words
+-- where a field path leads, with the structures that are being read, the innermost first
+abbrev pub field_by : List Text → Scopes → List OpenStruct → Option ScopeName → List ℕ → Option Field
+field_by names scopes open_structs None words = from_here names open_structs words
+field_by names scopes open_structs (Some scope) words = from_scope names (scope_field scope scopes) open_structs words
 
-abbrev pub field_of : List Text → Scopes → List Around → Reference → Option Field
-field_of names scopes around way = field_by names scopes around way.scope way.words
+abbrev pub field_of : List Text → Scopes → List OpenStruct → Reference → Option Field
+field_of names scopes open_structs field_path = field_by names scopes open_structs field_path.scope field_path.words
 
 -- a number with the place of its type
 abbrev pub number_in : Field-F Field Member → Option (ℤ × ℕ)

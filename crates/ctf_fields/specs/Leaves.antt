@@ -19,7 +19,7 @@ pub record IsReadable (i : Integer) : Type 0 where
 abbrev pub value_of : Integer → ℕ → ℤ
 value_of i n = if i.signed && nat_le (2 ^ (i.size - 1)) n then pos n -ℤ pos (2 ^ i.size) else pos n
 
--- the integer at this place, and the place behind it
+-- the integer at this place, and the place after it
 abbrev pub integer_at : Integer → List ℕ → ℕ → ℕ → Option (ℤ × ℕ)
 integer_at i bytes end place = if nat_le (place + i.size) end then Some (value_of i (integer i.order bytes place i.size), place + i.size) else None
 
@@ -36,10 +36,10 @@ text_in (b ∷ bs) = if b == 0 then Some [] else option_map (λ text. b ∷ text
 abbrev pub bytes_from : List ℕ → ℕ → ℕ → List ℕ
 bytes_from bytes end place = drop (place / 8) (take (end / 8) bytes)
 
--- a string with the place behind its zero byte, where it begins at this one
+-- a string with the place after its zero byte, where it begins at this one
 abbrev pub behind : ℕ → List ℕ → List ℕ × ℕ
 behind place text = (text, place + 8 * (length text + 1))
 
--- the string at the first whole byte from here, and the place behind it
+-- the string at the first whole byte from here, and the place after it
 abbrev pub text_read : List ℕ → ℕ → ℕ → Option (List ℕ × ℕ)
 text_read bytes end at = option_map (behind (next_multiple_of at 8)) (text_in (bytes_from bytes end (next_multiple_of at 8)))

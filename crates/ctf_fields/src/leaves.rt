@@ -9,7 +9,7 @@ use std::alloc::Global;
 use trace_types::{OutOfMemory, Text, cut_at};
 use type_table::Integer;
 
-/// The integer at the first place from `at` that it is aligned to, and the place behind it. `None` comes exactly
+/// The integer at the first place from `at` that it is aligned to, and the place after it. `None` comes exactly
 /// where a bit of it lies past the end. It takes no memory.
 #[inline(always)]
 pub fn read_integer(bits: BitSpan<'_>, at: u64, integer: Integer) -> Option<(i128, u64)>
@@ -54,7 +54,7 @@ fn value_of(integer: Integer, number: u64) -> i128
     }
 }
 
-/// The string at the first whole byte from `at`, without its zero byte, and the place behind that. `None` comes
+/// The string at the first whole byte from `at`, without its zero byte, and the place after that. `None` comes
 /// exactly where no zero byte lies before the end.
 pub fn read_text(
     alloc: Global,

@@ -4,14 +4,14 @@ ghost use Rattle.std.specs.Option.{option_copied};
 ghost use Rattle.ctf_fields.specs.Named.{first_at, first_in, first_member, first_named, last_at, last_in, last_member, last_named};
 
 use crate::field::{Field, Member};
-use crate::read::MAX_DEPTH;
+use trace_types::MAX_TYPE_DEPTH;
 use type_table::{Table, is_same_name};
 
 /// The first field of a name within a field, at any depth.
 pub fn first_named<'a>(table: &Table, text: &[u8], field: Option<&'a Field>) -> Option<&'a Field>
     ensures { option_copied result ≡ first_named table.now.names text.now (option_copied field.entry) }
 {
-    first_in(table, text, MAX_DEPTH, field?)
+    first_in(table, text, MAX_TYPE_DEPTH, field?)
 }
 
 #[cycle(first)]
@@ -68,7 +68,7 @@ fn first_at<'a>(
 pub fn last_named<'a>(table: &Table, text: &[u8], field: Option<&'a Field>) -> Option<&'a Field>
     ensures { option_copied result ≡ last_named table.now.names text.now (option_copied field.entry) }
 {
-    last_in(table, text, MAX_DEPTH, field?)
+    last_in(table, text, MAX_TYPE_DEPTH, field?)
 }
 
 #[cycle(last)]

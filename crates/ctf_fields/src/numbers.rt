@@ -4,20 +4,20 @@ ghost use Rattle.std.specs.Int.{next_multiple_of};
 ghost use Rattle.ctf_fields.specs.Leaves.{IsReadable};
 ghost use Rattle.ctf_fields.specs.Reading.{Gives, GivesWith, member_read, numbers, read_item, read_items, read_list, read_number};
 
-use crate::around::Around;
 use crate::error::FieldError;
 use crate::field::{Field, Member};
 use crate::leaves::next_place;
+use crate::open_struct::OpenStruct;
 use crate::source::Source;
 use sqlite_items::Items;
 use std::alloc::{AllocError, Global};
 use type_table::{FieldMeta, Integer};
 
-/// One more field of a structure, of this integer, and the place behind it.
+/// One more field of a structure, of this integer, and the place after it.
 #[inline(always)]
 pub fn add_number_member(
     source: &Source<'_>,
-    inner: &mut Around,
+    inner: &mut OpenStruct,
     integer: Integer,
     meta: FieldMeta,
     at: u64,
@@ -38,11 +38,11 @@ pub fn add_number_member(
     Ok(end)
 }
 
-/// One more field of a structure, an array of integers, and the place behind it.
+/// One more field of a structure, an array of integers, and the place after it.
 pub fn add_array_member(
     alloc: Global,
     source: &Source<'_>,
-    inner: &mut Around,
+    inner: &mut OpenStruct,
     array: (Integer, u64, u32),
     meta: FieldMeta,
     at: u64,
@@ -96,7 +96,7 @@ pub fn room_for<T: Drop>(alloc: Global, count: u64) -> Result<Items<T>, AllocErr
     Ok(Items::from_vec(Vec::with_capacity(alloc, count as usize)?))
 }
 
-/// So many items of this integer, one behind the other, and the place behind them.
+/// So many items of this integer, one after the other, and the place after them.
 pub fn add_numbers(
     source: &Source<'_>,
     integer: Integer,

@@ -6,11 +6,11 @@ ghost use Rattle.ctf_fields.specs.Leaves.{IsSpan};
 ghost use Rattle.ctf_fields.specs.Reading.{Gives, GivesWith, length_of, number_at, read, read_by, read_choice, read_item, read_items, read_list, read_member, read_members, read_struct, scope_read};
 ghost use Rattle.type_table.specs.Table.{IsSound};
 
-use crate::around::{Around, Scopes, clear, take_fields};
 use crate::choice::chosen;
 use crate::error::FieldError;
 use crate::field::{Field, Member};
 use crate::numbers::{add_array_member, add_number_member, add_numbers, aligned, room_for};
+use crate::open_struct::{OpenStruct, Scopes, clear, take_fields};
 use crate::scratch::Scratch;
 use crate::source::Source;
 use crate::span::BitSpan;
@@ -18,15 +18,10 @@ use crate::types::integer_of;
 use sqlite_items::{Boxed, Items};
 use std::alloc::Global;
 use std::mem;
+use trace_types::{MAX_ITEMS, MAX_TYPE_DEPTH};
 use type_table::{FieldMeta, Reference, TraceMeta, TypeMeta};
 
-/// The greatest number of items of a sequence.
-const MAX_LENGTH: u64 = 1_048_576;
-
-/// How many types deep a field may go.
-pub const MAX_DEPTH: u32 = 32;
-
-/// The field of a scope's type from a place on, in bits, and the place of the first bit behind it. `scopes` has the
+/// The field of a scope's type from a place on, in bits, and the place of the first bit after it. `scopes` has the
 /// fields of the scopes that are read before it.
 pub fn read_type(
     alloc: Global,
@@ -61,8 +56,8 @@ pub fn read_type_within(
     ensures forward { IfOk result (λ r. (at ≤ r.1) × (r.1 ≤ 2 ^ 63)) }
 {
     let source = Source::new(meta.table(), bits, scopes);
-    clear(&mut scratch.around);
-    read(alloc, &source, scratch, MAX_DEPTH, None, ty, at)
+    clear(&mut scratch.open_structs);
+    read(alloc, &source, scratch, MAX_TYPE_DEPTH, None, ty, at)
 }
 
 // The type at a place, for a field of this name of the structure around it.
@@ -78,9 +73,9 @@ fn read(
     at: u64,
 ) -> Result<(Field, u64), FieldError>
     requires { at ≤ 2 ^ 63 }
-    ensures gives { Gives (read depth source.now name ty (reverse scratch.old.around) at) result }
+    ensures gives { Gives (read depth source.now name ty (reverse scratch.old.open_structs) at) result }
     ensures forward { IfOk result (λ r. (at ≤ r.1) × (r.1 ≤ 2 ^ 63)) }
-    ensures stays { OnOk result (reverse scratch.new.around ≡ reverse scratch.old.around) }
+    ensures stays { OnOk result (reverse scratch.new.open_structs ≡ reverse scratch.old.open_structs) }
 {
     if depth == 0 {
         return Err(FieldError::ShortContent);
@@ -105,9 +100,9 @@ fn read_by(
 ) -> Result<(Field, u64), FieldError>
     requires at { at ≤ 2 ^ 63 }
     requires sound { IsSound meta.now }
-    ensures gives { Gives (read_by (read depth source.now) source.now name ty (Some meta.now) (reverse scratch.old.around) at) result }
+    ensures gives { Gives (read_by (read depth source.now) source.now name ty (Some meta.now) (reverse scratch.old.open_structs) at) result }
     ensures forward { IfOk result (λ r. (at ≤ r.1) × (r.1 ≤ 2 ^ 63)) }
-    ensures stays { OnOk result (reverse scratch.new.around ≡ reverse scratch.old.around) }
+    ensures stays { OnOk result (reverse scratch.new.open_structs ≡ reverse scratch.old.open_structs) }
 {
     match meta {
         TypeMeta::Integer { .. } => source.read_number(ty, integer_of(meta), at),
@@ -128,7 +123,7 @@ fn read_by(
         TypeMeta::Variant { tag, fields } => {
             let field = chosen(
                 source,
-                source.number_at(scratch.around.as_slice(), tag),
+                source.number_at(scratch.open_structs.as_slice(), tag),
                 fields.as_slice(),
             );
             read_choice(alloc, source, scratch, depth, field, at)
@@ -137,7 +132,8 @@ fn read_by(
             read_list(alloc, source, scratch, depth, *length, *item, at)
         }
         TypeMeta::Sequence { length, item } => {
-            let Some(count) = length_of(source.number_at(scratch.around.as_slice(), length)) else {
+            let Some(count) = length_of(source.number_at(scratch.open_structs.as_slice(), length))
+            else {
                 return Err(FieldError::TooLong);
             };
             read_list(alloc, source, scratch, depth, count, *item, at)
@@ -150,7 +146,7 @@ fn length_of(number: Option<(i128, u32)>) -> Option<u64>
     ensures { result ≡ length_of number }
 {
     let (value, _) = number?;
-    if value < 0 || value > i128::from(MAX_LENGTH) {
+    if value < 0 || value > i128::from(MAX_ITEMS) {
         return None;
     }
     Some(value as u64)
@@ -170,12 +166,12 @@ fn read_struct(
 ) -> Result<(Field, u64), FieldError>
     requires at { at ≤ 2 ^ 63 }
     requires aligns { (1 ≤ align) × (65536 % align ≡ 0) }
-    ensures gives { Gives (read_struct (read depth source.now) name align fields.now (reverse scratch.old.around) at) result }
+    ensures gives { Gives (read_struct (read depth source.now) name align fields.now (reverse scratch.old.open_structs) at) result }
     ensures forward { IfOk result (λ r. (at ≤ r.1) × (r.1 ≤ 2 ^ 63)) }
-    ensures stays { OnOk result (reverse scratch.new.around ≡ reverse scratch.old.around) }
+    ensures stays { OnOk result (reverse scratch.new.open_structs ≡ reverse scratch.old.open_structs) }
 {
     let place = aligned(at, align);
-    let mut inner = Around {
+    let mut inner = OpenStruct {
         name,
         fields: scratch.list_for(alloc, fields.len() as u64)?,
     };
@@ -183,21 +179,21 @@ fn read_struct(
     Ok((Field::Struct(inner.fields), end))
 }
 
-// The fields of a structure within those around, one behind the other.
+// The fields of a structure within those around, one after the other.
 #[cycle(read)]
 fn read_members(
     alloc: Global,
     source: &Source<'_>,
     scratch: &mut Scratch,
-    inner: &mut Around,
+    inner: &mut OpenStruct,
     depth: u32,
     fields: &[FieldMeta],
     at: u64,
 ) -> Result<u64, FieldError>
     requires { at ≤ 2 ^ 63 }
-    ensures gives { GivesWith (read_members (read depth source.now) fields.now (inner.old ∷ reverse scratch.old.around) at) (inner.new ∷ reverse scratch.new.around) result }
+    ensures gives { GivesWith (read_members (read depth source.now) fields.now (inner.old ∷ reverse scratch.old.open_structs) at) (inner.new ∷ reverse scratch.new.open_structs) result }
     ensures forward { IfOk result (λ end. (at ≤ end) × (end ≤ 2 ^ 63)) }
-    ensures stays { OnOk result (reverse scratch.new.around ≡ reverse scratch.old.around) }
+    ensures stays { OnOk result (reverse scratch.new.open_structs ≡ reverse scratch.old.open_structs) }
 {
     let mut place = at;
     for field in fields {
@@ -212,15 +208,15 @@ fn read_member(
     alloc: Global,
     source: &Source<'_>,
     scratch: &mut Scratch,
-    inner: &mut Around,
+    inner: &mut OpenStruct,
     depth: u32,
     meta: FieldMeta,
     at: u64,
 ) -> Result<u64, FieldError>
     requires { at ≤ 2 ^ 63 }
-    ensures gives { GivesWith (read_member (read depth source.now) meta (inner.old ∷ reverse scratch.old.around) at) (inner.new ∷ reverse scratch.new.around) result }
+    ensures gives { GivesWith (read_member (read depth source.now) meta (inner.old ∷ reverse scratch.old.open_structs) at) (inner.new ∷ reverse scratch.new.open_structs) result }
     ensures forward { IfOk result (λ end. (at ≤ end) × (end ≤ 2 ^ 63)) }
-    ensures stays { OnOk result (reverse scratch.new.around ≡ reverse scratch.old.around) }
+    ensures stays { OnOk result (reverse scratch.new.open_structs ≡ reverse scratch.old.open_structs) }
 {
     if depth > 0 {
         if let Some(integer) = source.number_type(meta.ty) {
@@ -241,21 +237,21 @@ fn read_nested(
     alloc: Global,
     source: &Source<'_>,
     scratch: &mut Scratch,
-    inner: &mut Around,
+    inner: &mut OpenStruct,
     depth: u32,
     meta: FieldMeta,
     at: u64,
 ) -> Result<u64, FieldError>
     requires { at ≤ 2 ^ 63 }
-    ensures gives { GivesWith (read_member (read depth source.now) meta (inner.old ∷ reverse scratch.old.around) at) (inner.new ∷ reverse scratch.new.around) result }
+    ensures gives { GivesWith (read_member (read depth source.now) meta (inner.old ∷ reverse scratch.old.open_structs) at) (inner.new ∷ reverse scratch.new.open_structs) result }
     ensures forward { IfOk result (λ end. (at ≤ end) × (end ≤ 2 ^ 63)) }
-    ensures stays { OnOk result (reverse scratch.new.around ≡ reverse scratch.old.around) }
+    ensures stays { OnOk result (reverse scratch.new.open_structs ≡ reverse scratch.old.open_structs) }
 {
     let name = inner.name;
     let fields = mem::replace(&mut inner.fields, Items::new(alloc));
-    scratch.around.push(Around { name, fields })?;
+    scratch.open_structs.push(OpenStruct { name, fields })?;
     let (field, end) = read(alloc, source, scratch, depth, Some(meta.name), meta.ty, at)?;
-    inner.fields = take_fields(alloc, &mut scratch.around);
+    inner.fields = take_fields(alloc, &mut scratch.open_structs);
     inner.fields.push(Member {
         name: meta.name,
         field,
@@ -274,9 +270,9 @@ fn read_choice(
     at: u64,
 ) -> Result<(Field, u64), FieldError>
     requires { at ≤ 2 ^ 63 }
-    ensures gives { Gives (read_choice (read depth source.now) chosen (reverse scratch.old.around) at) result }
+    ensures gives { Gives (read_choice (read depth source.now) chosen (reverse scratch.old.open_structs) at) result }
     ensures forward { IfOk result (λ r. (at ≤ r.1) × (r.1 ≤ 2 ^ 63)) }
-    ensures stays { OnOk result (reverse scratch.new.around ≡ reverse scratch.old.around) }
+    ensures stays { OnOk result (reverse scratch.new.open_structs ≡ reverse scratch.old.open_structs) }
 {
     let Some(meta) = chosen else {
         return Err(FieldError::NoVariant);
@@ -304,16 +300,16 @@ fn read_list(
     at: u64,
 ) -> Result<(Field, u64), FieldError>
     requires { at ≤ 2 ^ 63 }
-    ensures gives { Gives (read_list (read depth source.now) source.now.table count item (reverse scratch.old.around) at) result }
+    ensures gives { Gives (read_list (read depth source.now) source.now.table count item (reverse scratch.old.open_structs) at) result }
     ensures forward { IfOk result (λ r. (at ≤ r.1) × (r.1 ≤ 2 ^ 63)) }
-    ensures stays { OnOk result (reverse scratch.new.around ≡ reverse scratch.old.around) }
+    ensures stays { OnOk result (reverse scratch.new.open_structs ≡ reverse scratch.old.open_structs) }
 {
     let place = aligned(at, source.align_at(item));
     let (items, end) = read_items(alloc, source, scratch, depth, count, item, place)?;
     Ok((Field::List { item, items }, end))
 }
 
-// So many items, one behind the other. Each takes a bit at least, so no more room is taken than there are bits.
+// So many items, one after the other. Each takes a bit at least, so no more room is taken than there are bits.
 #[cycle(read)]
 fn read_items(
     alloc: Global,
@@ -325,9 +321,9 @@ fn read_items(
     at: u64,
 ) -> Result<(Items<Field>, u64), FieldError>
     requires { at ≤ 2 ^ 63 }
-    ensures gives { Gives (read_items (read depth source.now) item (reverse scratch.old.around) count [] at) result }
+    ensures gives { Gives (read_items (read depth source.now) item (reverse scratch.old.open_structs) count [] at) result }
     ensures forward { IfOk result (λ r. (at ≤ r.1) × (r.1 ≤ 2 ^ 63)) }
-    ensures stays { OnOk result (reverse scratch.new.around ≡ reverse scratch.old.around) }
+    ensures stays { OnOk result (reverse scratch.new.open_structs ≡ reverse scratch.old.open_structs) }
 {
     let mut items = room_for(alloc, count.min(source.bits_left(at)))?;
     let end = add_items(alloc, source, scratch, depth, count, item, at, &mut items)?;
@@ -347,9 +343,9 @@ fn add_items(
     items: &mut Items<Field>,
 ) -> Result<u64, FieldError>
     requires { at ≤ 2 ^ 63 }
-    ensures gives { GivesWith (read_items (read depth source.now) item (reverse scratch.old.around) count items.old at) items.new result }
+    ensures gives { GivesWith (read_items (read depth source.now) item (reverse scratch.old.open_structs) count items.old at) items.new result }
     ensures forward { IfOk result (λ end. (at ≤ end) × (end ≤ 2 ^ 63)) }
-    ensures stays { OnOk result (reverse scratch.new.around ≡ reverse scratch.old.around) }
+    ensures stays { OnOk result (reverse scratch.new.open_structs ≡ reverse scratch.old.open_structs) }
 {
     if depth > 0 {
         if let Some(integer) = source.number_type(item) {
@@ -371,9 +367,9 @@ fn add_each(
     items: &mut Items<Field>,
 ) -> Result<u64, FieldError>
     requires { at ≤ 2 ^ 63 }
-    ensures gives { GivesWith (read_items (read depth source.now) item (reverse scratch.old.around) count items.old at) items.new result }
+    ensures gives { GivesWith (read_items (read depth source.now) item (reverse scratch.old.open_structs) count items.old at) items.new result }
     ensures forward { IfOk result (λ end. (at ≤ end) × (end ≤ 2 ^ 63)) }
-    ensures stays { OnOk result (reverse scratch.new.around ≡ reverse scratch.old.around) }
+    ensures stays { OnOk result (reverse scratch.new.open_structs ≡ reverse scratch.old.open_structs) }
 {
     let mut place = at;
     for _index in 0..count {
@@ -393,9 +389,9 @@ fn add_item(
     items: &mut Items<Field>,
 ) -> Result<u64, FieldError>
     requires { at ≤ 2 ^ 63 }
-    ensures gives { GivesWith (read_item (read depth source.now) item (reverse scratch.old.around) items.old at) items.new result }
+    ensures gives { GivesWith (read_item (read depth source.now) item (reverse scratch.old.open_structs) items.old at) items.new result }
     ensures forward { IfOk result (λ end. (at ≤ end) × (end ≤ 2 ^ 63)) }
-    ensures stays { OnOk result (reverse scratch.new.around ≡ reverse scratch.old.around) }
+    ensures stays { OnOk result (reverse scratch.new.open_structs ≡ reverse scratch.old.open_structs) }
 {
     let (field, end) = read(alloc, source, scratch, depth, None, item, at)?;
     items.push(field)?;

@@ -1,18 +1,18 @@
 //! Memory that reading needs beside the fields that it gives.
 ghost use Rattle.std.specs.Prelude.{◌≡◌, [], IfOk};
 
-use crate::around::Around;
 use crate::field::{Field, Member};
 use crate::numbers::room_for;
-use crate::read::MAX_DEPTH;
+use crate::open_struct::OpenStruct;
 use sqlite_items::Items;
 use std::alloc::{AllocError, Global};
+use trace_types::MAX_TYPE_DEPTH;
 
 /// The structures that are being read, and lists of fields whose memory is used again. Events that are read one after
 /// the other with one of these take less memory anew.
 #[derive(Drop)]
 pub struct Scratch {
-    pub(crate) around: Items<Around>,
+    pub(crate) open_structs: Items<OpenStruct>,
     pub(crate) spare: Items<Items<Member>>,
 }
 
@@ -20,14 +20,14 @@ impl Scratch {
     /// It takes no memory.
     pub fn new(alloc: Global) -> Scratch {
         Scratch {
-            around: Items::new(alloc),
+            open_structs: Items::new(alloc),
             spare: Items::new(alloc),
         }
     }
 
     /// Takes the memory of a field that is no longer needed.
     pub fn recycle(&mut self, field: Field) {
-        keep(&mut self.spare, MAX_DEPTH, field);
+        keep(&mut self.spare, MAX_TYPE_DEPTH, field);
     }
 
     // An empty list of fields, with room for so many where its memory is new.
@@ -37,7 +37,7 @@ impl Scratch {
         count: u64,
     ) -> Result<Items<Member>, AllocError>
         ensures list { IfOk result (λ list. list ≡ []) }
-        ensures around { self.new.around ≡ self.old.around }
+        ensures open_structs { self.new.open_structs ≡ self.old.open_structs }
     {
         match self.spare.pop() {
             Some(list) => Ok(emptied(list)),

@@ -6,13 +6,13 @@ ghost use Rattle.ctf_fields.specs.Reading.{Gives, array_by, integer_of, integer_
 ghost use Rattle.ctf_fields.specs.declared.field.Field.TheVariants as variant;
 ghost use Rattle.type_table.specs.Table.{IsSound};
 
-use crate::around::{Around, Scopes};
 use crate::error::FieldError;
 use crate::field::Field;
+use crate::field_path::number_at;
 use crate::leaves::{read_integer, read_text};
+use crate::open_struct::{OpenStruct, Scopes};
 use crate::span::BitSpan;
 use crate::types::{integer_of, integer_type, type_at};
-use crate::ways::number_at;
 use std::alloc::Global;
 use std::marker::Model;
 use type_table::{Integer, Reference, Table, TypeMeta};
@@ -105,20 +105,24 @@ impl<'a> Source<'a> {
         ensures aligns { (1 ≤ result) × (65536 % result ≡ 0) }
     {
         if (place as usize) < self.table.len() {
-            self.table.facts(place).align
+            self.table.type_size(place).align
         } else {
             8
         }
     }
 
-    /// The number that a way leads to, with the place of its type.
-    pub fn number_at(&self, around: &[Around], way: &Reference) -> Option<(i128, u32)>
-        ensures { result ≡ number_at self.now (reverse around.now) way.now }
+    /// The number that a field path leads to, with the place of its type.
+    pub fn number_at(
+        &self,
+        open_structs: &[OpenStruct],
+        field_path: &Reference,
+    ) -> Option<(i128, u32)>
+        ensures { result ≡ number_at self.now (reverse open_structs.now) field_path.now }
     {
-        number_at(self.table, self.scopes, around, way)
+        number_at(self.table, self.scopes, open_structs, field_path)
     }
 
-    /// The integer from this place on, and the place behind it.
+    /// The integer from this place on, and the place after it.
     #[inline(always)]
     pub fn read_integer(&self, integer: Integer, at: u64) -> Option<(i128, u64)>
         requires at { at ≤ 2 ^ 63 }

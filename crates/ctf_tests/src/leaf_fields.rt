@@ -109,7 +109,7 @@ fn signs(rt: HostRuntime) {
     );
 }
 
-// What a string is from a bit on, and the place behind it.
+// What a string is from a bit on, and the place after it.
 fn string_at<R: AllocGlobal + Abort>(
     rt: &R,
     bits: BitSpan<'_>,

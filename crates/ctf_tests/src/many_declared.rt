@@ -5,7 +5,7 @@ use std::alloc::AllocGlobal;
 use std::process::Abort;
 use std::test::Fail;
 use trace_types::Text;
-use type_table::{ClockRate, EventId, EventParts, Table, Told, TypeMeta};
+use type_table::{ClockRate, Declared, EventId, EventParts, Table, TypeMeta};
 
 const MANY: u32 = 65_537;
 
@@ -33,7 +33,7 @@ fn many_events(rt: HostRuntime) -> Result<(), Fail> {
 
 // The place of the last of many events.
 fn last_event<R: AllocGlobal + Abort>(rt: &R) -> Result<Option<u32>, Fail> {
-    let mut told = Told::new(rt.alloc());
+    let mut told = Declared::new(rt.alloc());
     for id in 0..MANY {
         let event = EventId {
             stream: 0,
@@ -61,7 +61,7 @@ fn many_names(rt: HostRuntime) -> Result<(), Fail> {
 }
 
 fn last_name<R: AllocGlobal + Abort>(rt: &R) -> Result<u32, Fail> {
-    let mut told = Told::new(rt.alloc());
+    let mut told = Declared::new(rt.alloc());
     let mut last = 0;
     for n in 0..MANY {
         last = told.event_name(number_text(rt, n)?)?;
@@ -76,7 +76,7 @@ fn many_clocks(rt: HostRuntime) -> Result<(), Fail> {
 }
 
 fn clocks_of<R: AllocGlobal + Abort>(rt: &R) -> Result<usize, Fail> {
-    let mut told = Told::new(rt.alloc());
+    let mut told = Declared::new(rt.alloc());
     for n in 0..MANY {
         let name = number_text(rt, n)?;
         let rate = ClockRate {

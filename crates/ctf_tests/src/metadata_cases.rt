@@ -32,7 +32,7 @@ pub fn refused<R: AllocGlobal + Abort>(
     }
 }
 
-/// The same, behind the two items.
+/// The same, after the two items.
 pub fn refused_behind<R: AllocGlobal + Abort>(
     rt: &R,
     text: &[u8],
@@ -43,7 +43,7 @@ pub fn refused_behind<R: AllocGlobal + Abort>(
     refused(rt, &whole)
 }
 
-/// Each text is accepted behind the two items.
+/// Each text is accepted after the two items.
 pub fn all_are_typed<R: AllocGlobal + Abort>(rt: &R, texts: &[&str]) -> Result<(), Fail> {
     for text in texts {
         assert!(rt; refused_behind(rt, text.as_bytes())?.is_none());
@@ -51,7 +51,7 @@ pub fn all_are_typed<R: AllocGlobal + Abort>(rt: &R, texts: &[&str]) -> Result<(
     Ok(())
 }
 
-/// Each text, behind the two items, the number of the item that is refused, and the cause.
+/// Each text, after the two items, the number of the item that is refused, and the cause.
 pub fn all_are_refused<R: AllocGlobal + Abort>(
     rt: &R,
     table: &[(&str, u64, MetaItemCause)],

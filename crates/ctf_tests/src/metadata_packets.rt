@@ -37,7 +37,7 @@ fn put(header: Header, out: &mut Vec<u8>) -> Result<(), Fail> {
     Ok(())
 }
 
-// A sound packet with the text `tra`, and behind it one with this header and these bytes.
+// A sound packet with the text `tra`, and after it one with this header and these bytes.
 fn two<R: AllocGlobal>(rt: &R, second: Header, rest: &[u8]) -> Result<Vec<u8>, Fail> {
     let mut bytes = Vec::new(rt.alloc());
     put(FIRST, &mut bytes)?;

@@ -8,7 +8,7 @@ use tsdl_parser::{
     StructBody, StructTree, TypeTree, VariantTree,
 };
 
-/// The declarations, each behind the place of its first token.
+/// The declarations, each after the place of its first token.
 pub fn put_decls(decls: &[Decl], out: &mut Vec<u8>) -> Result<(), Fail> {
     for decl in decls {
         put_number(i128::from(decl.first), out)?;

@@ -138,7 +138,7 @@ fn write_events(meta: &TraceMeta, events: &[RawEvent], out: &mut Vec<u8>) -> io:
     Ok(())
 }
 
-// A number, a string in quotes, a structure in braces, a chosen field behind its name, or a list in brackets.
+// A number, a string in quotes, a structure in braces, a chosen field after its name, or a list in brackets.
 #[cycle(write)]
 fn write_field(meta: &TraceMeta, field: &Field, out: &mut Vec<u8>) -> io::Result<()> {
     match field {

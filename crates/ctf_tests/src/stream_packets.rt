@@ -38,7 +38,7 @@ const THREE: [u8; 36] = [
     0xC1, 0x1F, 0xFC, 0xC1, 0x60, 0, 0x60, 0, 0, 7, 1, 0xAA,
 ];
 
-// A packet whose event is damaged gives no event; those before and behind it do.
+// A packet whose event is damaged gives no event; those before and after it do.
 #[test]
 fn three_packets(rt: HostRuntime) -> Result<(), Fail> {
     is_cut(

@@ -3,7 +3,7 @@ use Rattle.std.proofs.Common.{◌≡◌, ◌∙◌, ℕ, ◌+◌, List, [], ◌�
 use Rattle.trace_types.specs.declared.event.Event.{Event}
 use Rattle.trace_types.specs.declared.event.KernelEvent.{KernelEvent}
 use Rattle.type_table.specs.SameTrace.{AreBoth, IsSameTrace}
-use Rattle.type_table.specs.ToldKept.{IsSoundMeta, MetaParts}
+use Rattle.type_table.specs.TraceMetas.{IsSoundMeta, MetaParts}
 use Rattle.ctf_fields.specs.declared.raw.RawEvent.{RawEvent}
 use Rattle.kernel_layout.specs.Kinds.{kind_of}
 use Rattle.kernel_layout.proofs.AlikeKinds.{kind_alike}
@@ -17,14 +17,14 @@ use Rattle.packet_decoder.specs.declared.piece.Piece.TheVariants as piece
 use Rattle.packet_decoder.proofs.AlikeEvents.{AlikePackets, AlikeRaw, AlikeRaws, decoded_alike}
 use Rattle.packet_decoder.proofs.AlikePieces.{same_pieces}
 use Rattle.decode_pool.specs.declared.files.FileBytes.{FileBytes}
-use Rattle.decode_pool.specs.declared.part.Kept.{Kept}
-use Rattle.decode_pool.specs.declared.part.Part.{Part}
-use Rattle.decode_pool.specs.declared.part.Part.TheVariants as part
+use Rattle.decode_pool.specs.declared.decoded_packet.AcceptedPacket.{AcceptedPacket}
+use Rattle.decode_pool.specs.declared.decoded_packet.DecodedPacket.{DecodedPacket}
+use Rattle.decode_pool.specs.declared.decoded_packet.DecodedPacket.TheVariants as part
 use Rattle.decode_pool.specs.Hosts.{all_events, all_incomplete, all_packets, all_refused, incomplete_in as kept_incomplete, refused_in}
 use Rattle.decode_pool.specs.Limits.{host_packets, packets_in}
-use Rattle.decode_pool.specs.Marks.{file_events, kept_in}
+use Rattle.decode_pool.specs.Marks.{file_events, accepted_in}
 use Rattle.decode_pool.specs.OneTrace.{IsSameFile, TellSame}
-use Rattle.decode_pool.specs.Parts.{event_of, incomplete_in, packet_kept, part_by, part_of, parts_of}
+use Rattle.decode_pool.specs.Parts.{event_of, incomplete_in, accepted_packet, part_by, part_of, parts_of}
 
 module _ (host : ℕ) (m n : MetaParts) (sm : IsSoundMeta m) (sn : IsSoundMeta n) (same : IsSameTrace m n) where
   kind_same : (r s : RawEvent) → AlikeRaw m.table n.table r s → kind_of m r ≡ kind_of n s
@@ -49,15 +49,15 @@ module _ (host : ℕ) (m n : MetaParts) (sm : IsSoundMeta m) (sn : IsSoundMeta n
   lacking_same (r ∷ rs) [] h = absurd h
   lacking_same (r ∷ rs) (s ∷ ss) h = ap₂ (λ k more. (if k.1 then 1 else 0) + more) (kind_same r s h.0) (lacking_same rs ss h.1)
 
-  a_packet : PacketSpan → List Event → ℕ → Kept
+  a_packet : PacketSpan → List Event → ℕ → AcceptedPacket
   a_packet span events incomplete = record { cpu = span.cpu; seq = span.seq; discarded = span.discarded; events = events; incomplete = incomplete }
 
-  kept_same : (span : PacketSpan) (rs ss : List RawEvent) → AlikeRaws m.table n.table rs ss → packet_kept host m span rs ≡ packet_kept host n span ss
+  kept_same : (span : PacketSpan) (rs ss : List RawEvent) → AlikeRaws m.table n.table rs ss → accepted_packet host m span rs ≡ accepted_packet host n span ss
   unfolding a_packet
   kept_same span rs ss h = ap₂ (a_packet span) (events_same rs ss h) (lacking_same rs ss h)
 
   packet_same : (span : PacketSpan) (x y : PacketResult) → AlikePackets m.table n.table x y → part_by host m span x ≡ part_by host n span y
-  packet_same span (result.Events rs) (result.Events ss) h = ap part.Kept (kept_same span rs ss h)
+  packet_same span (result.Events rs) (result.Events ss) h = ap part.Accepted (kept_same span rs ss h)
   packet_same span (result.Events rs) (result.Refused d) h = absurd h
   packet_same span (result.Refused c) (result.Events ss) h = absurd h
   packet_same span (result.Refused c) (result.Refused d) h = ap (part.Refused span.offset) h
@@ -94,13 +94,13 @@ module _ (host : ℕ) (m n : MetaParts) (sm : IsSoundMeta m) (sn : IsSoundMeta n
   all_packets_same [] [] h = refl
   all_packets_same [] (g ∷ gs) h = absurd h
   all_packets_same (f ∷ fs) [] h = absurd h
-  all_packets_same (f ∷ fs) (g ∷ gs) h = ap₂ (λ ps k. length (kept_in ps) + k) (file_same f g h.0) (all_packets_same fs gs h.1)
+  all_packets_same (f ∷ fs) (g ∷ gs) h = ap₂ (λ ps k. length (accepted_in ps) + k) (file_same f g h.0) (all_packets_same fs gs h.1)
 
   all_incomplete_same : (fs gs : List FileBytes) → AreBoth IsSameFile fs gs → all_incomplete host m fs ≡ all_incomplete host n gs
   all_incomplete_same [] [] h = refl
   all_incomplete_same [] (g ∷ gs) h = absurd h
   all_incomplete_same (f ∷ fs) [] h = absurd h
-  all_incomplete_same (f ∷ fs) (g ∷ gs) h = ap₂ (λ ps k. kept_incomplete (kept_in ps) + k) (file_same f g h.0) (all_incomplete_same fs gs h.1)
+  all_incomplete_same (f ∷ fs) (g ∷ gs) h = ap₂ (λ ps k. kept_incomplete (accepted_in ps) + k) (file_same f g h.0) (all_incomplete_same fs gs h.1)
 
   cut_same : (fs gs : List FileBytes) → AreBoth IsSameFile fs gs → host_packets m fs ≡ host_packets n gs
   cut_same [] [] h = refl

@@ -22,7 +22,7 @@ are_push [] (g ∷ gs) h f a is = absurd a
 are_push (k ∷ ks) [] h f a is = absurd a
 are_push (k ∷ ks) (g ∷ gs) h f a is = (a.0, are_push ks gs h f a.1 is)
 
--- those behind it have small files, too
+-- those after it have small files, too
 pub more_small : (hosts : List HostFiles) (i : ℕ) (h : HostFiles) → i < length hosts → AllByRecursion HasSmallFiles (drop i hosts) → AllByRecursion HasSmallFiles (drop (i + 1) hosts)
 more_small hosts i h lt all = (subst (AllByRecursion HasSmallFiles) (drop_more hosts i h lt) all).1
 

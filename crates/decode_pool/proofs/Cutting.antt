@@ -1,7 +1,7 @@
 -- What the pieces of all files hold, cut into what those of each file do.
 use Rattle.std.proofs.Common.{◌≡◌, ℕ, zero, suc, ◌≤◌, ◌<◌, List, [], ◌∷◌, length, get_or, drop, arith}
 use Rattle.std.proofs.lemmas.List.{length-append}
-use Rattle.type_table.specs.ToldKept.{MetaParts}
+use Rattle.type_table.specs.TraceMetas.{MetaParts}
 use Rattle.decode_pool.specs.declared.files.FileBytes.{FileBytes}
 use Rattle.decode_pool.specs.Hosts.{all_parts, part_counts}
 use Rattle.decode_pool.specs.Parts.{parts_of}

@@ -1,6 +1,6 @@
 -- A packet's events, each made a kernel event as it is read.
 use Rattle.std.proofs.Common.{◌≡◌, ℕ, ◌+◌, if◌then◌else◌, List, [], ◌∷◌, ◌++◌, append_assoc, append-nil, map, Result, Ok, Err, refl, sym, ap, ap₂, arith}
-use Rattle.type_table.specs.ToldKept.{MetaParts}
+use Rattle.type_table.specs.TraceMetas.{MetaParts}
 use Rattle.ctf_fields.specs.declared.raw.RawEvent.{RawEvent}
 use Rattle.trace_types.specs.declared.event.Event.{Event}
 use Rattle.trace_types.specs.declared.cause.Cause.{Cause}
@@ -8,22 +8,22 @@ use Rattle.packet_decoder.specs.Events.{as_packet}
 use Rattle.packet_decoder.specs.Unread.{and_before}
 use Rattle.packet_decoder.specs.declared.piece.PacketSpan.{PacketSpan}
 use Rattle.kernel_layout.specs.Kinds.{kind_of}
-use Rattle.decode_pool.specs.declared.part.Kept.{Kept}
-use Rattle.decode_pool.specs.declared.part.Part.{Part}
-use Rattle.decode_pool.specs.declared.part.Part.TheVariants as part
+use Rattle.decode_pool.specs.declared.decoded_packet.AcceptedPacket.{AcceptedPacket}
+use Rattle.decode_pool.specs.declared.decoded_packet.DecodedPacket.{DecodedPacket}
+use Rattle.decode_pool.specs.declared.decoded_packet.DecodedPacket.TheVariants as part
 use Rattle.decode_pool.specs.Parts.{event_of, incomplete_in, part_by}
 
 -- a packet of which these events are made, and so many are incomplete
-abbrev pub kept_so_far : PacketSpan → List Event → ℕ → Kept
+abbrev pub kept_so_far : PacketSpan → List Event → ℕ → AcceptedPacket
 kept_so_far span events incomplete = record { cpu = span.cpu; seq = span.seq; discarded = span.discarded; events = events; incomplete = incomplete }
 
 -- what the packet holds, with what is left of it
-abbrev pub with_left : ℕ → MetaParts → PacketSpan → List Event → ℕ → Result (List RawEvent) Cause → Part
-with_left host meta span events incomplete (Ok raws) = part.Kept (kept_so_far span (events ++ map (event_of host meta) raws) (incomplete + incomplete_in meta raws))
+abbrev pub with_left : ℕ → MetaParts → PacketSpan → List Event → ℕ → Result (List RawEvent) Cause → DecodedPacket
+with_left host meta span events incomplete (Ok raws) = part.Accepted (kept_so_far span (events ++ map (event_of host meta) raws) (incomplete + incomplete_in meta raws))
 with_left host meta span events incomplete (Err cause) = part.Refused span.offset cause
 
 pub at_first : (host : ℕ) (meta : MetaParts) (span : PacketSpan) (left : Result (List RawEvent) Cause) → part_by host meta span (as_packet left) ≡ with_left host meta span [] 0 left
-at_first host meta span (Ok raws) = let e : 0 + incomplete_in meta raws ≡ incomplete_in meta raws = omega arith in ap (λ n. part.Kept (kept_so_far span (map (event_of host meta) raws) n)) (sym e)
+at_first host meta span (Ok raws) = let e : 0 + incomplete_in meta raws ≡ incomplete_in meta raws = omega arith in ap (λ n. part.Accepted (kept_so_far span (map (event_of host meta) raws) n)) (sym e)
 at_first host meta span (Err cause) = refl
 
 lacking : MetaParts → RawEvent → ℕ
@@ -33,8 +33,8 @@ pub one_more : (host : ℕ) (meta : MetaParts) (span : PacketSpan) (events : Lis
     → with_left host meta span events incomplete (and_before raw left) ≡ with_left host meta span (events ++ event_of host meta raw ∷ []) (incomplete + n) left
 one_more host meta span events incomplete n raw (Ok raws) e =
     let sum : incomplete + ((if (kind_of meta raw).1 then 1 else 0) + incomplete_in meta raws) ≡ (incomplete + n) + incomplete_in meta raws = omega (arith, e) in
-    ap₂ (λ es k. part.Kept (kept_so_far span es k)) (sym (append_assoc events (event_of host meta raw ∷ []) (map (event_of host meta) raws))) sum
+    ap₂ (λ es k. part.Accepted (kept_so_far span es k)) (sym (append_assoc events (event_of host meta raw ∷ []) (map (event_of host meta) raws))) sum
 one_more host meta span events incomplete n raw (Err cause) e = refl
 
-pub at_last : (host : ℕ) (meta : MetaParts) (span : PacketSpan) (events : List Event) (incomplete : ℕ) → with_left host meta span events incomplete (Ok []) ≡ part.Kept (kept_so_far span events incomplete)
-at_last host meta span events incomplete = let none : incomplete + 0 ≡ incomplete = omega arith in ap₂ (λ es n. part.Kept (kept_so_far span es n)) (append-nil events) none
+pub at_last : (host : ℕ) (meta : MetaParts) (span : PacketSpan) (events : List Event) (incomplete : ℕ) → with_left host meta span events incomplete (Ok []) ≡ part.Accepted (kept_so_far span events incomplete)
+at_last host meta span events incomplete = let none : incomplete + 0 ≡ incomplete = omega arith in ap₂ (λ es n. part.Accepted (kept_so_far span es n)) (append-nil events) none

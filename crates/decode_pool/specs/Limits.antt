@@ -1,7 +1,7 @@
 -- The limits of a run on packets and on events, and what its hosts' files hold within them (this project's own).
 use Rattle.std.specs.Prelude.{ℕ, ◌+◌, List, [], ◌∷◌, length}
 use Rattle.std.specs.List.{AllByRecursion}
-use Rattle.type_table.specs.ToldKept.{MetaParts}
+use Rattle.type_table.specs.TraceMetas.{MetaParts}
 use Rattle.trace_types.specs.declared.host.HostEvents.{HostEvents}
 use Rattle.packet_decoder.specs.declared.piece.Piece.{Piece}
 use Rattle.packet_decoder.specs.declared.piece.Piece.TheVariants as piece

@@ -3,17 +3,17 @@ use Rattle.std.specs.Prelude.{ℕ, ◌+◌, ◌-◌, ◌%◌, ◌^◌, ◌==◌,
 use Rattle.trace_types.specs.declared.event.Event.{Event}
 use Rattle.trace_types.specs.declared.event.KernelEvent.TheVariants.{Lost}
 use Rattle.packet_decoder.specs.declared.piece.Counter.{Counter}
-use Rattle.decode_pool.specs.declared.part.Kept.{Kept}
-use Rattle.decode_pool.specs.declared.part.Part.{Part}
-use Rattle.decode_pool.specs.declared.part.Part.TheVariants as part
-use Rattle.decode_pool.specs.declared.loss.Loss.{Loss}
-use Rattle.decode_pool.specs.declared.loss.Counts.{Counts}
+use Rattle.decode_pool.specs.declared.decoded_packet.AcceptedPacket.{AcceptedPacket}
+use Rattle.decode_pool.specs.declared.decoded_packet.DecodedPacket.{DecodedPacket}
+use Rattle.decode_pool.specs.declared.decoded_packet.DecodedPacket.TheVariants as part
+use Rattle.decode_pool.specs.declared.lost_events.LostEvents.{LostEvents}
+use Rattle.decode_pool.specs.declared.lost_events.Counts.{Counts}
 
--- behind how many counts a counter begins again; no counter has more than 64 bits
+-- after how many counts a counter begins again; no counter has more than 64 bits
 abbrev pub span_of : Counter → ℕ
 span_of c = 2 ^ min c.size 64
 
--- packets are missing where two packets have numbers, and the later isn't the one behind the earlier
+-- packets are missing where two packets have numbers, and the later isn't the one after the earlier
 abbrev pub is_gap : Option Counter → Option Counter → Bool
 is_gap (Some before) (Some now) = not (now.value == (before.value + 1) % span_of now)
 is_gap before now = false
@@ -29,49 +29,49 @@ lost_since before None = 0
 lost_since before (Some now) = (now.value + (span_of now - value_of before % span_of now)) % span_of now
 
 -- what is missing so far: how many events, 2^64 - 1 where they are more, and whether packets are
-abbrev pub nothing_lost : Loss
+abbrev pub nothing_lost : LostEvents
 nothing_lost = record { events = 0; gap = false }
 
-abbrev pub and_lost : Loss → Counts → Counts → Loss
-and_lost loss before now = record { events = min (loss.events + lost_since before.discarded now.discarded) (2 ^ 64 - 1); gap = loss.gap || is_gap before.seq now.seq }
+abbrev pub plus_lost : LostEvents → Counts → Counts → LostEvents
+plus_lost lost before now = record { events = min (lost.events + lost_since before.discarded now.discarded) (2 ^ 64 - 1); gap = lost.gap || is_gap before.seq now.seq }
 
-abbrev pub counts_of : Kept → Counts
+abbrev pub counts_of : AcceptedPacket → Counts
 counts_of k = record { seq = k.seq; discarded = k.discarded }
 
 -- a mark on the packet's processor, at the time of its first event, where something is missing
-abbrev pub mark : Kept → Event → Loss → List Event
-mark k first loss = if loss.events == 0 && not loss.gap then [] else record { time = first.time; host = first.host; cpu = k.cpu; kind = Lost loss.events loss.gap } ∷ []
+abbrev pub mark : AcceptedPacket → Event → LostEvents → List Event
+mark k first lost = if lost.events == 0 && not lost.gap then [] else record { time = first.time; host = first.host; cpu = k.cpu; kind = Lost lost.events lost.gap } ∷ []
 
--- a packet's events, behind such a mark
-abbrev pub added_by : Kept → Loss → List Event → List Event
-added_by k loss [] = []
-added_by k loss (e ∷ es) = mark k e loss ++ e ∷ es
+-- a packet's events, after such a mark
+abbrev pub added_by : AcceptedPacket → LostEvents → List Event → List Event
+added_by k lost [] = []
+added_by k lost (e ∷ es) = mark k e lost ++ e ∷ es
 
-abbrev pub added : Kept → Loss → List Event
-added k loss = added_by k loss k.events
+abbrev pub added : AcceptedPacket → LostEvents → List Event
+added k lost = added_by k lost k.events
 
--- what is missing before a packet without events is told at the next one that has some
-abbrev pub left_by : Loss → List Event → Loss
-left_by loss [] = loss
-left_by loss (e ∷ es) = nothing_lost
+-- what is missing before a packet without events is reported at the next one that has some
+abbrev pub left_by : LostEvents → List Event → LostEvents
+left_by lost [] = lost
+left_by lost (e ∷ es) = nothing_lost
 
-abbrev pub left : Kept → Loss → Loss
-left k loss = left_by loss k.events
+abbrev pub left : AcceptedPacket → LostEvents → LostEvents
+left k lost = left_by lost k.events
 
--- the events of accepted packets, one behind the other, with the marks; before them stands a packet with these counts, and so much is missing
-abbrev pub listed : Counts → Loss → List Kept → List Event
-listed before loss [] = []
-listed before loss (k ∷ ks) = added k (and_lost loss before (counts_of k)) ++ listed (counts_of k) (left k (and_lost loss before (counts_of k))) ks
+-- the events of accepted packets, one after the other, with the marks; before them stands a packet with these counts, and so much is missing
+abbrev pub listed : Counts → LostEvents → List AcceptedPacket → List Event
+listed before lost [] = []
+listed before lost (k ∷ ks) = added k (plus_lost lost before (counts_of k)) ++ listed (counts_of k) (left k (plus_lost lost before (counts_of k))) ks
 
 -- the accepted packets among parts
-abbrev pub kept_in : List Part → List Kept
-kept_in [] = []
-kept_in (part.Kept k ∷ ps) = k ∷ kept_in ps
-kept_in (part.Refused offset cause ∷ ps) = kept_in ps
+abbrev pub accepted_in : List DecodedPacket → List AcceptedPacket
+accepted_in [] = []
+accepted_in (part.Accepted k ∷ ps) = k ∷ accepted_in ps
+accepted_in (part.Refused offset cause ∷ ps) = accepted_in ps
 
 abbrev pub no_counts : Counts
 no_counts = record { seq = None; discarded = None }
 
 -- the events of a file, with the marks
-abbrev pub file_events : List Part → List Event
-file_events ps = listed no_counts nothing_lost (kept_in ps)
+abbrev pub file_events : List DecodedPacket → List Event
+file_events ps = listed no_counts nothing_lost (accepted_in ps)

@@ -1,7 +1,7 @@
 //! All hosts, within the limits of a run.
 ghost use Rattle.std.specs.Prelude.{◌≡◌, ◌≤◌, ◌<◌, Err, IfOk};
 ghost use Rattle.std.specs.List.{AllByRecursion};
-ghost use Rattle.trace_types.specs.Limits.{MAX_EVENTS};
+ghost use Rattle.trace_types.specs.declared.limits.TheConstants.{MAX_EVENTS};
 ghost use Rattle.decode_pool.specs.Limits.{AreHosts, HasSmallFiles, MAX_PACKETS, event_count, packet_count};
 ghost use Rattle.decode_pool.specs.declared.all.DecodeError.TheVariants.{TooManyEvents, TooManyPackets};
 

@@ -2,7 +2,7 @@
 ghost use Rattle.std.specs.Prelude.{◌≡◌, All, IfOk, map};
 ghost use Rattle.decode_pool.specs.Jobs.{CanDecode, job_part};
 
-use crate::part::{Part, part_of};
+use crate::decoded_packet::{DecodedPacket, part_of};
 use kernel_layout::Layout;
 use packet_decoder::Piece;
 use rayon::prelude::*;
@@ -26,15 +26,15 @@ pub fn decode_jobs(
     rt: &(impl Threads + Sync),
     alloc: Global,
     jobs: &[Job<'_>],
-) -> Result<Vec<Part>, OutOfMemory>
+) -> Result<Vec<DecodedPacket>, OutOfMemory>
     requires { All CanDecode jobs.now }
     ensures { IfOk result (λ parts. parts.items ≡ map job_part jobs.now) }
 {
-    let parts: Result<Vec<Part>, OutOfMemory> = jobs
+    let parts: Result<Vec<DecodedPacket>, OutOfMemory> = jobs
         .par_iter()
         .with_min_len(1)
         .map(
-            |job: &Job<'_>| -> Result<Part, OutOfMemory>
+            |job: &Job<'_>| -> Result<DecodedPacket, OutOfMemory>
                 requires { CanDecode job.now }
                 ensures { IfOk result (λ part. part ≡ job_part job.now) }
             { decode_job(alloc, job) },
@@ -43,7 +43,7 @@ pub fn decode_jobs(
     parts
 }
 
-fn decode_job(alloc: Global, job: &Job<'_>) -> Result<Part, OutOfMemory>
+fn decode_job(alloc: Global, job: &Job<'_>) -> Result<DecodedPacket, OutOfMemory>
     requires { CanDecode job.now }
     ensures { IfOk result (λ part. part ≡ job_part job.now) }
 {

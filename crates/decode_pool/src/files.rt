@@ -7,9 +7,9 @@ ghost use Rattle.std.specs.List.{AllByRecursion};
 ghost use Rattle.decode_pool.specs.Hosts.{IsSmall, all_parts, part_counts};
 ghost use Rattle.decode_pool.specs.Parts.{part_of, parts_of};
 
+use crate::decoded_packet::DecodedPacket;
 use crate::decoding::{Job, decode_jobs};
 use crate::hosts::HostFiles;
-use crate::part::Part;
 use kernel_layout::Layout;
 use packet_decoder::{Piece, cut};
 use std::alloc::Global;
@@ -24,14 +24,14 @@ pub struct FileBytes {
     pub bytes: Vec<u8>,
 }
 
-/// What all pieces of a host's files hold, one file behind the other, and how many pieces each file has. The packets of
+/// What all pieces of a host's files hold, one file after the other, and how many pieces each file has. The packets of
 /// all files are decoded side by side. `layout` is that of the trace.
 pub fn host_parts(
     rt: &(impl Threads + Sync),
     alloc: Global,
     host: &HostFiles,
     layout: &Layout,
-) -> Result<(Vec<Part>, Vec<usize>), OutOfMemory>
+) -> Result<(Vec<DecodedPacket>, Vec<usize>), OutOfMemory>
     requires layout { layout.now ≡ layout_of host.now.meta }
     requires files { AllByRecursion IsSmall host.now.files.items }
     ensures parts { IfOk result (λ r. r.0.items ≡ all_parts host.now.host host.now.meta host.now.files.items) }

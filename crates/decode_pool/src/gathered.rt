@@ -1,10 +1,10 @@
 //! What the files of a host give together.
 ghost use Rattle.std.specs.Prelude.{◌≡◌, ◌≤◌, ◌+◌, ◌^◌, ◌++◌, IfErr, IfOk, OnOk, length};
 ghost use Rattle.decode_pool.specs.Hosts.{incomplete_in, refused_in};
-ghost use Rattle.decode_pool.specs.Marks.{file_events, kept_in};
+ghost use Rattle.decode_pool.specs.Marks.{file_events, accepted_in};
 
+use crate::decoded_packet::DecodedPacket;
 use crate::listing::add_file_events;
-use crate::part::Part;
 use std::alloc::Global;
 use trace_types::{Event, OutOfMemory, RefusedPacket, Text};
 
@@ -22,22 +22,22 @@ pub struct Gathered {
 pub fn add_parts(
     alloc: Global,
     name: &Text,
-    parts: &[Part],
+    parts: &[DecodedPacket],
     gathered: &mut Gathered,
 ) -> Result<(), OutOfMemory>
     ensures events { OnOk result (gathered.new.events.items ≡ gathered.old.events.items ++ file_events parts.now) }
     ensures refused { OnOk result (gathered.new.refused.items ≡ gathered.old.refused.items ++ refused_in name.now parts.now) }
-    ensures packets { OnOk result (gathered.new.packets ≡ gathered.old.packets + length (kept_in parts.now)) }
-    ensures incomplete { OnOk result (gathered.new.incomplete ≡ gathered.old.incomplete + incomplete_in (kept_in parts.now)) }
+    ensures packets { OnOk result (gathered.new.packets ≡ gathered.old.packets + length (accepted_in parts.now)) }
+    ensures incomplete { OnOk result (gathered.new.incomplete ≡ gathered.old.incomplete + incomplete_in (accepted_in parts.now)) }
 {
     add_file_events(parts, &mut gathered.events)?;
     for part in parts {
         match part {
-            Part::Kept(kept) => {
+            DecodedPacket::Accepted(kept) => {
                 gathered.packets = sum(gathered.packets, 1)?;
                 gathered.incomplete = sum(gathered.incomplete, kept.incomplete)?;
             }
-            Part::Refused { offset, cause } => {
+            DecodedPacket::Refused { offset, cause } => {
                 let file = Text::from_bytes(alloc, name.as_bytes())?;
                 gathered.refused.push(RefusedPacket {
                     file,

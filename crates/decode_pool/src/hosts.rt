@@ -79,7 +79,7 @@ fn gather(
 
 // The event names of a trace.
 fn names_of(alloc: Global, meta: &TraceMeta) -> Result<Vec<Text>, OutOfMemory>
-    ensures { IfOk result (λ names. names.items ≡ meta.now.told.event_names) }
+    ensures { IfOk result (λ names. names.items ≡ meta.now.declared.event_names) }
 {
     meta.is_sound();
     let mut names = Vec::new(alloc);

@@ -1,7 +1,7 @@
 //! What holds of all traces and their stream files.
 ghost use Rattle.std.specs.Prelude.{ℕ, List};
 ghost use Rattle.type_table.specs.SameTrace.{AreBoth, IsSameTrace};
-ghost use Rattle.type_table.specs.ToldKept.{IsSoundMeta, MetaParts};
+ghost use Rattle.type_table.specs.TraceMetas.{IsSoundMeta, MetaParts};
 ghost use Rattle.decode_pool.specs.declared.files.FileBytes.{FileBytes};
 ghost use Rattle.decode_pool.specs.OneTrace.{IsSameFile, TellSame};
 

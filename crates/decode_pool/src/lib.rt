@@ -2,15 +2,15 @@
 #![tactic(auto)]
 
 mod all;
+mod decoded_packet;
 mod decoding;
 mod files;
 mod gathered;
 mod hosts;
 mod laws;
 mod listing;
-mod loss;
+mod lost_events;
 mod packets;
-mod part;
 
 pub use all::{DecodeError, MAX_PACKETS, decode_all};
 pub use files::FileBytes;

@@ -8,7 +8,7 @@ use Rattle.event_list.specs.declared.kind_word.KindWord.{KindWord}
 use Rattle.event_list.specs.declared.kind_word.KindWord.TheVariants as plain
 use Rattle.event_list.specs.declared.name_word.NameWord.{NameWord}
 use Rattle.event_list.specs.declared.name_word.NameWord.TheVariants.{CallIn, CallOut, Other}
-use Rattle.event_list.specs.declared.told.ToldKind.{ToldKind}
+use Rattle.event_list.specs.declared.parsed_line.ParsedKind.{ParsedKind}
 use Rattle.event_list.specs.Kinds as kinds
 use Rattle.event_list.specs.NameWords.{spelling, kind_with, may_name, IsNamed}
 use Rattle.event_list.specs.Lines.{IsKindLine, IsPlainLine}
@@ -67,7 +67,7 @@ pub name_line : (w : NameWord) (fields : List (List ℕ)) (name : List ℕ) → 
 name_line w fields name is = record { spelling = ap (λ l. spelling w ∷ l) is.spelled ∙ sym (words_with w name); is_kind = kind_fits w name is.may is.are_bytes }
 
 -- and with no such name no line begins so
-no_named : (w : NameWord) (fields : List (List ℕ)) → ((name : List ℕ) → ¬ (IsNamed w fields name)) → (t : ToldKind) → ¬ (IsKindLine (spelling w ∷ fields) t)
+no_named : (w : NameWord) (fields : List (List ℕ)) → ((name : List ℕ) → ¬ (IsNamed w fields name)) → (t : ParsedKind) → ¬ (IsKindLine (spelling w ∷ fields) t)
 no_named w fields none t line = elim (by_kind t.name t.kind line.is_kind) [ inl p ↦ plainly p | inr n ↦ of_name n ]
   where
     plainly : IsPlainKind t.name t.kind → ⊥
@@ -80,11 +80,11 @@ no_named w fields none t line = elim (by_kind t.name t.kind line.is_kind) [ inl 
         none t.name (record { spelled = rest_is _ _ _ _ e; may = subst (λ v. may_name v t.name ≡ true) (sym same) n.may; are_bytes = n.are_bytes })
 
 -- without such a word, a line is that of a plain kind
-no_plain : (first : List ℕ) (fields : List (List ℕ)) → ((w : NameWord) → first ≢ spelling w) → ((k : KernelEvent) → ¬ (IsPlainLine (first ∷ fields) k)) → (t : ToldKind) → ¬ (IsKindLine (first ∷ fields) t)
+no_plain : (first : List ℕ) (fields : List (List ℕ)) → ((w : NameWord) → first ≢ spelling w) → ((k : KernelEvent) → ¬ (IsPlainLine (first ∷ fields) k)) → (t : ParsedKind) → ¬ (IsKindLine (first ∷ fields) t)
 no_plain first fields none others t line = elim (by_kind t.name t.kind line.is_kind) [ inl p ↦ others t.kind (record { spelling = line.spelling ∙ p.words (t.name ∷ []); is_kind = p.plain }) | inr n ↦ none n.word (first_is _ _ _ _ (line.spelling ∙ named_words t.name t.kind n)) ]
 
 -- no line is empty
-no_words : (t : ToldKind) → ¬ (IsKindLine [] t)
+no_words : (t : ParsedKind) → ¬ (IsKindLine [] t)
 no_words t line = elim (by_kind t.name t.kind line.is_kind) [ inl p ↦ (let h = has_word t.kind p.plain in empty _ _ (line.spelling ∙ (p.words (t.name ∷ []) ∙ h.spelled))) | inr n ↦ empty _ _ (line.spelling ∙ named_words t.name t.kind n) ]
   where
     empty : (a : List ℕ) (xs : List (List ℕ)) → [] ≢ a ∷ xs
@@ -92,14 +92,14 @@ no_words t line = elim (by_kind t.name t.kind line.is_kind) [ inl p ↦ (let h =
 
 -- ---- the same of the words as the code holds them
 
-pub none_at_all : (ws : List (Bor (List ℕ))) → length ws ≡ 0 → (t : ToldKind) → ¬ (IsKindLine (texts ws) t)
+pub none_at_all : (ws : List (Bor (List ℕ))) → length ws ≡ 0 → (t : ParsedKind) → ¬ (IsKindLine (texts ws) t)
 none_at_all [] e = no_words
 none_at_all (w ∷ ws) e = absurd (omega (arith, e))
 
 all : (v : Bor (List ℕ)) (vs : List (Bor (List ℕ))) → take (length (v ∷ vs) - 1) vs ≡ vs
 all v vs = ap (λ n. take n vs) (omega arith) ∙ take-length vs
 
-pub no_name_there : (ws : List (Bor (List ℕ))) (w : NameWord) → 1 ≤ length ws → word ws 0 ≡ spelling w → ((name : List ℕ) → ¬ (IsNamed w (texts (take (length ws - 1) (drop 1 ws))) name)) → (t : ToldKind) → ¬ (IsKindLine (texts ws) t)
+pub no_name_there : (ws : List (Bor (List ℕ))) (w : NameWord) → 1 ≤ length ws → word ws 0 ≡ spelling w → ((name : List ℕ) → ¬ (IsNamed w (texts (take (length ws - 1) (drop 1 ws))) name)) → (t : ParsedKind) → ¬ (IsKindLine (texts ws) t)
 no_name_there [] w some is none t line = absurd (omega arith)
 no_name_there (v ∷ vs) w some is none t line = no_named w (texts vs) (subst (λ l. (name : List ℕ) → ¬ (IsNamed w (texts l) name)) (all v vs) none) t (subst (λ l. IsKindLine (l ∷ texts vs) t) is line)
 
@@ -107,7 +107,7 @@ pub name_there : (ws : List (Bor (List ℕ))) (w : NameWord) (name : List ℕ) �
 name_there [] w name some is named = absurd (omega arith)
 name_there (v ∷ vs) w name some is named = subst (λ l. IsKindLine (l ∷ texts vs) (record { kind = kind_with w 0; name = name })) (sym is) (name_line w (texts vs) name (subst (λ l. IsNamed w (texts l) name) (all v vs) named))
 
-pub no_plain_there : (ws : List (Bor (List ℕ))) → 1 ≤ length ws → ((w : NameWord) → word ws 0 ≢ spelling w) → ((k : KernelEvent) → ¬ (IsPlainLine (texts ws) k)) → (t : ToldKind) → ¬ (IsKindLine (texts ws) t)
+pub no_plain_there : (ws : List (Bor (List ℕ))) → 1 ≤ length ws → ((w : NameWord) → word ws 0 ≢ spelling w) → ((k : KernelEvent) → ¬ (IsPlainLine (texts ws) k)) → (t : ParsedKind) → ¬ (IsKindLine (texts ws) t)
 no_plain_there [] some none others t line = absurd (omega arith)
 no_plain_there (v ∷ vs) some none others t line = no_plain v.now (texts vs) none others t line
 

@@ -1,4 +1,4 @@
--- The numbers of names stay, whatever names come behind.
+-- The numbers of names stay, whatever names come after it.
 use Rattle.std.proofs.Common.{◌≡◌, ◌≢◌, inl, inr, ℕ, suc, ◌+◌, ◌<◌, ◌≤◌, Bool, true, false, true≢false, cond, if◌then◌else◌, List, [], ◌∷◌, ◌++◌, length, map, refl, sym, ap, ap₂, ◌∙◌, subst, arith}
 use Rattle.std.specs.Fmt.{decimal}
 use Rattle.std.specs.Prelude.{not, ◌==◌, ◌&&◌, ◌||◌, flat_map, fold}
@@ -10,12 +10,12 @@ use Rattle.std.proofs.lemmas.List.Sums.{fold-append}
 use Rattle.indexmap.specs.IndexSet.{insert_key}
 use Rattle.trace_types.specs.declared.event.Merged.{Merged}
 use Rattle.trace_types.specs.declared.event.KernelEvent.{KernelEvent}
-use Rattle.event_list.specs.declared.told.Told.{Told}
+use Rattle.event_list.specs.declared.parsed_line.ParsedLine.{ParsedLine}
 use Rattle.event_list.specs.declared.name_word.NameWord.{NameWord}
 use Rattle.event_list.specs.declared.name_word.NameWord.TheVariants.{CallIn, CallOut, Other}
 use Rattle.event_list.specs.declared.numbering.Numbering.{Numbering}
-use Rattle.event_list.specs.Lines.{IsTold, events_of, kind_words, line_text, name_at, told_text, IsKind}
-use Rattle.event_list.specs.Names.{carries_name, names_at, names_of, names_told, numbered_in, same_name, with_number}
+use Rattle.event_list.specs.Lines.{IsParsedLine, events_of, kind_words, line_text, name_at, parsed_text, IsKind}
+use Rattle.event_list.specs.Names.{carries_name, names_at, names_of, names_parsed, numbered_in, same_name, with_number}
 use Rattle.event_list.specs.Numbering.{Adds, IsHeld, IsNumbered}
 use Rattle.event_list.specs.NameWords.{kind_with}
 use Rattle.event_list.specs.Order.{host_count, RiseFrom}
@@ -50,7 +50,7 @@ kept k x ks h = by (list_any (same_name x) ks)
     by true = (refl, h)
     by false = place_kept k x ks h
 
--- a name that comes last has the place behind the others
+-- a name that comes last has the place after the others
 last_place : (k : List ℕ) (ks : Names) → list_any (same_name k) ks ≡ false → (position_or_len (same_name k) (ks ++ k ∷ []) ≡ position_or_len (same_name k) ks) × (list_any (same_name k) (ks ++ k ∷ []) ≡ true)
 last_place k [] h = (rw (itself k) refl, rw (itself k) refl)
 last_place k (y ∷ ys) h = by (same_name k y) refl h (last_place k ys)
@@ -113,14 +113,14 @@ kind_again names name k h held = elim (by_kind name k h) [ inl p ↦ plainly p |
 -- ---- lines and tables
 
 -- the event of a line by its host's names
-abbrev pub by_names : (ℕ → Names) → Told → Merged
+abbrev pub by_names : (ℕ → Names) → ParsedLine → Merged
 by_names names t = numbered_in (names t.event.event.host) t
 
-abbrev with_kind : Told → KernelEvent → Merged
+abbrev with_kind : ParsedLine → KernelEvent → Merged
 with_kind t k = record { key = t.event.key; event = record { time = t.event.event.time; host = t.event.event.host; cpu = t.event.event.cpu; kind = k } }
 
 -- where each name keeps its place, so does each event
-same_event : (name_of name_to : ℕ → Names) (t : Told) → IsTold t → (carries_name t.event.event.kind ≡ true → position_or_len (same_name t.name) (name_to t.event.event.host) ≡ position_or_len (same_name t.name) (name_of t.event.event.host)) → by_names name_to t ≡ by_names name_of t
+same_event : (name_of name_to : ℕ → Names) (t : ParsedLine) → IsParsedLine t → (carries_name t.event.event.kind ≡ true → position_or_len (same_name t.name) (name_to t.event.event.host) ≡ position_or_len (same_name t.name) (name_of t.event.event.host)) → by_names name_to t ≡ by_names name_of t
 same_event name_of name_to t is same = by (carries_name t.event.event.kind) refl
   where
     by : (b : Bool) → carries_name t.event.event.kind ≡ b → by_names name_to t ≡ by_names name_of t
@@ -128,28 +128,28 @@ same_event name_of name_to t is same = by (carries_name t.event.event.kind) refl
     by false e = ap (with_kind t) (stays _ t.name t.event.event.kind is.kind e ∙ sym (stays _ t.name t.event.event.kind is.kind e))
 
 -- told lines whose hosts' names grow
-all_same : (name_of name_to : ℕ → Names) (ts : List Told) → AllByRecursion IsTold ts → AllByRecursion (λ t. carries_name t.event.event.kind ≡ true → position_or_len (same_name t.name) (name_to t.event.event.host) ≡ position_or_len (same_name t.name) (name_of t.event.event.host)) ts → map (by_names name_to) ts ≡ map (by_names name_of) ts
-all_same name_of name_to [] told same = refl
-all_same name_of name_to (t ∷ ts) told same = ap₂ (λ m ms. m ∷ ms) (same_event name_of name_to t told.0 same.0) (all_same name_of name_to ts told.1 same.1)
+all_same : (name_of name_to : ℕ → Names) (ts : List ParsedLine) → AllByRecursion IsParsedLine ts → AllByRecursion (λ t. carries_name t.event.event.kind ≡ true → position_or_len (same_name t.name) (name_to t.event.event.host) ≡ position_or_len (same_name t.name) (name_of t.event.event.host)) ts → map (by_names name_to) ts ≡ map (by_names name_of) ts
+all_same name_of name_to [] parsed same = refl
+all_same name_of name_to (t ∷ ts) parsed same = ap₂ (λ m ms. m ∷ ms) (same_event name_of name_to t parsed.0 same.0) (all_same name_of name_to ts parsed.1 same.1)
 
 -- the names of a host, with those of one more line
-told_push : (h : ℕ) (ts : List Told) (t : Told) → names_told h (ts ++ t ∷ []) ≡ names_told h ts ++ names_told h (t ∷ [])
+told_push : (h : ℕ) (ts : List ParsedLine) (t : ParsedLine) → names_parsed h (ts ++ t ∷ []) ≡ names_parsed h ts ++ names_parsed h (t ∷ [])
 told_push h [] t = refl
 told_push h (x ∷ xs) t = by ((x.event.event.host == h) && carries_name x.event.event.kind) (told_push h xs t)
   where
-    by : (b : Bool) → names_told h (xs ++ t ∷ []) ≡ names_told h xs ++ names_told h (t ∷ []) → (if b then x.name ∷ names_told h (xs ++ t ∷ []) else names_told h (xs ++ t ∷ [])) ≡ (if b then x.name ∷ names_told h xs else names_told h xs) ++ names_told h (t ∷ [])
+    by : (b : Bool) → names_parsed h (xs ++ t ∷ []) ≡ names_parsed h xs ++ names_parsed h (t ∷ []) → (if b then x.name ∷ names_parsed h (xs ++ t ∷ []) else names_parsed h (xs ++ t ∷ [])) ≡ (if b then x.name ∷ names_parsed h xs else names_parsed h xs) ++ names_parsed h (t ∷ [])
     by true e = ap (λ l. x.name ∷ l) e
     by false e = e
 
-names_push : (h : ℕ) (ts : List Told) (t : Told) → names_of h (ts ++ t ∷ []) ≡ (if (t.event.event.host == h) && carries_name t.event.event.kind then insert_key same_name (names_of h ts) t.name else names_of h ts)
-names_push h ts t = ap (fold (insert_key same_name) []) (told_push h ts t) ∙ (fold-append (insert_key same_name) [] (names_told h ts) (names_told h (t ∷ [])) ∙ by ((t.event.event.host == h) && carries_name t.event.event.kind))
+names_push : (h : ℕ) (ts : List ParsedLine) (t : ParsedLine) → names_of h (ts ++ t ∷ []) ≡ (if (t.event.event.host == h) && carries_name t.event.event.kind then insert_key same_name (names_of h ts) t.name else names_of h ts)
+names_push h ts t = ap (fold (insert_key same_name) []) (told_push h ts t) ∙ (fold-append (insert_key same_name) [] (names_parsed h ts) (names_parsed h (t ∷ [])) ∙ by ((t.event.event.host == h) && carries_name t.event.event.kind))
   where
     by : (b : Bool) → fold (insert_key same_name) (names_of h ts) (if b then t.name ∷ [] else []) ≡ (if b then insert_key same_name (names_of h ts) t.name else names_of h ts)
     by true = refl
     by false = refl
 
 -- one step: each name that is there keeps its place, and the new one has its own
-grown : (k : List ℕ) (t : Told) (old new : Numbering) (h : ℕ) → Adds old t new → list_any (same_name k) (names_at old.tables.items h) ≡ true → (position_or_len (same_name k) (names_at new.tables.items h) ≡ position_or_len (same_name k) (names_at old.tables.items h)) × (list_any (same_name k) (names_at new.tables.items h) ≡ true)
+grown : (k : List ℕ) (t : ParsedLine) (old new : Numbering) (h : ℕ) → Adds old t new → list_any (same_name k) (names_at old.tables.items h) ≡ true → (position_or_len (same_name k) (names_at new.tables.items h) ≡ position_or_len (same_name k) (names_at old.tables.items h)) × (list_any (same_name k) (names_at new.tables.items h) ≡ true)
 grown k t old new h adds there = elim (eqb_tells h t.event.event.host) [ inl same ↦ here same.1 | inr other ↦ rw (adds.others h other.1) (refl, there) ]
   where
     here : h ≡ t.event.event.host → (position_or_len (same_name k) (names_at new.tables.items h) ≡ position_or_len (same_name k) (names_at old.tables.items h)) × (list_any (same_name k) (names_at new.tables.items h) ≡ true)
@@ -162,28 +162,28 @@ grown k t old new h adds there = elim (eqb_tells h t.event.event.host) [ inl sam
             by true = kept k t.name (names_at old.tables.items t.event.event.host) g
             by false = (refl, g)
 
-all_held : (t : Told) (old new : Numbering) (ts : List Told) → Adds old t new → AllByRecursion (IsHeld (names_at old.tables.items)) ts
+all_held : (t : ParsedLine) (old new : Numbering) (ts : List ParsedLine) → Adds old t new → AllByRecursion (IsHeld (names_at old.tables.items)) ts
     → AllByRecursion (λ x. carries_name x.event.event.kind ≡ true → position_or_len (same_name x.name) (names_at new.tables.items x.event.event.host) ≡ position_or_len (same_name x.name) (names_at old.tables.items x.event.event.host)) ts × AllByRecursion (IsHeld (names_at new.tables.items)) ts
 all_held t old new [] adds held = (tt, tt)
 all_held t old new (x ∷ xs) adds held =
     let rest = all_held t old new xs adds held.1 in
     ((λ c. (grown x.name t old new x.event.event.host adds (held.0 c)).0, rest.0), (λ c. (grown x.name t old new x.event.event.host adds (held.0 c)).1, rest.1))
 
-own_held : (t : Told) (old new : Numbering) → Adds old t new → carries_name t.event.event.kind ≡ true → (position_or_len (same_name t.name) (names_at new.tables.items t.event.event.host) ≡ position_or_len (same_name t.name) (names_at old.tables.items t.event.event.host)) × (list_any (same_name t.name) (names_at new.tables.items t.event.event.host) ≡ true)
+own_held : (t : ParsedLine) (old new : Numbering) → Adds old t new → carries_name t.event.event.kind ≡ true → (position_or_len (same_name t.name) (names_at new.tables.items t.event.event.host) ≡ position_or_len (same_name t.name) (names_at old.tables.items t.event.event.host)) × (list_any (same_name t.name) (names_at new.tables.items t.event.event.host) ≡ true)
 own_held t old new adds c = rw (adds.names, c) (own t.name (names_at old.tables.items t.event.event.host))
 
-all_push : (P : Told → Type 0) (xs : List Told) (t : Told) → AllByRecursion P xs → P t → AllByRecursion P (xs ++ t ∷ [])
+all_push : (P : ParsedLine → Type 0) (xs : List ParsedLine) (t : ParsedLine) → AllByRecursion P xs → P t → AllByRecursion P (xs ++ t ∷ [])
 all_push P [] t h p = (p, tt)
 all_push P (x ∷ xs) t h p = (h.0, all_push P xs t h.1 p)
 
 -- one more line
-pub more_numbered : (ts : List Told) (t : Told) (old new : Numbering) → AllByRecursion IsTold ts → IsTold t → IsNumbered ts old → Adds old t new → IsNumbered (ts ++ t ∷ []) new
-more_numbered ts t old new told is has adds =
+pub more_numbered : (ts : List ParsedLine) (t : ParsedLine) (old new : Numbering) → AllByRecursion IsParsedLine ts → IsParsedLine t → IsNumbered ts old → Adds old t new → IsNumbered (ts ++ t ∷ []) new
+more_numbered ts t old new parsed is has adds =
     let held = all_held t old new ts adds has.held in
     let name_of = names_at old.tables.items in
     let name_to = names_at new.tables.items in
     record {
-      events = adds.events ∙ (ap₂ (λ xs x. xs ++ x ∷ []) (has.events ∙ sym (all_same name_of name_to ts told held.0)) (sym (same_event name_of name_to t is (λ c. (own_held t old new adds c).0))) ∙ sym (map-append (by_names name_to) ts (t ∷ [])));
+      events = adds.events ∙ (ap₂ (λ xs x. xs ++ x ∷ []) (has.events ∙ sym (all_same name_of name_to ts parsed held.0)) (sym (same_event name_of name_to t is (λ c. (own_held t old new adds c).0))) ∙ sym (map-append (by_names name_to) ts (t ∷ [])));
       names = λ h low. elim (eqb_tells t.event.event.host h) [ inl same ↦ here h low same.0 same.1 | inr other ↦ there h low other.0 other.1 ];
       held = all_push (IsHeld name_to) ts t held.1 (λ c. (own_held t old new adds c).1);
       tables = adds.tables;
@@ -205,28 +205,28 @@ more_numbered ts t old new told is has adds =
 -- ---- the whole
 
 -- each line is spelled again by its event and its host's names
-pub again : (names : ℕ → Names) (ts : List Told) → AllByRecursion IsTold ts → AllByRecursion (IsHeld names) ts → flat_map told_text ts ≡ flat_map (λ m. line_text (names m.event.host) m) (map (by_names names) ts)
-again names [] told held = refl
-again names (t ∷ ts) told held =
-    let one : told_text t ≡ line_text (names t.event.event.host) (by_names names t) = ap (λ ws. join_with_byte 32 (decimal t.event.key ∷ decimal t.event.event.host ∷ decimal t.event.event.cpu ∷ decimal t.event.event.time ∷ ws) ++ 10 ∷ []) (kind_again (names t.event.event.host) t.name t.event.event.kind told.0.kind held.0) in
-    ap₂ (λ a b. a ++ b) one (again names ts told.1 held.1)
+pub again : (names : ℕ → Names) (ts : List ParsedLine) → AllByRecursion IsParsedLine ts → AllByRecursion (IsHeld names) ts → flat_map parsed_text ts ≡ flat_map (λ m. line_text (names m.event.host) m) (map (by_names names) ts)
+again names [] parsed held = refl
+again names (t ∷ ts) parsed held =
+    let one : parsed_text t ≡ line_text (names t.event.event.host) (by_names names t) = ap (λ ws. join_with_byte 32 (decimal t.event.key ∷ decimal t.event.event.host ∷ decimal t.event.event.cpu ∷ decimal t.event.event.time ∷ ws) ++ 10 ∷ []) (kind_again (names t.event.event.host) t.name t.event.event.kind parsed.0.kind held.0) in
+    ap₂ (λ a b. a ++ b) one (again names ts parsed.1 held.1)
 
 -- names that agree below 64 give the same events
-pub by_same : (f g : ℕ → Names) (ts : List Told) → AllByRecursion IsTold ts → ((h : ℕ) → h < 64 → f h ≡ g h) → map (by_names f) ts ≡ map (by_names g) ts
-by_same f g [] told e = refl
-by_same f g (t ∷ ts) told e = ap₂ (λ m ms. m ∷ ms) (ap (λ names. numbered_in names t) (e t.event.event.host told.0.host)) (by_same f g ts told.1 e)
+pub by_same : (f g : ℕ → Names) (ts : List ParsedLine) → AllByRecursion IsParsedLine ts → ((h : ℕ) → h < 64 → f h ≡ g h) → map (by_names f) ts ≡ map (by_names g) ts
+by_same f g [] parsed e = refl
+by_same f g (t ∷ ts) parsed e = ap₂ (λ m ms. m ∷ ms) (ap (λ names. numbered_in names t) (e t.event.event.host parsed.0.host)) (by_same f g ts parsed.1 e)
 
 -- hosts are below 64
-pub hosts_below : (names : ℕ → Names) (ts : List Told) → AllByRecursion IsTold ts → AllByRecursion (λ m. m.event.host < 64) (map (by_names names) ts)
-hosts_below names [] told = tt
-hosts_below names (t ∷ ts) told = (told.0.host, hosts_below names ts told.1)
+pub hosts_below : (names : ℕ → Names) (ts : List ParsedLine) → AllByRecursion IsParsedLine ts → AllByRecursion (λ m. m.event.host < 64) (map (by_names names) ts)
+hosts_below names [] parsed = tt
+hosts_below names (t ∷ ts) parsed = (parsed.0.host, hosts_below names ts parsed.1)
 
 pub few_hosts : (ms : List Merged) → AllByRecursion (λ m. m.event.host < 64) ms → host_count ms ≤ 64
 few_hosts [] h = omega arith
 few_hosts (m ∷ ms) h = omega (arith, h.0, few_hosts ms h.1)
 
 -- keys stay
-pub still_rise : (names : ℕ → Names) (k : ℕ) (ts : List Told) → RiseFrom k (events_of ts) → RiseFrom k (map (by_names names) ts)
+pub still_rise : (names : ℕ → Names) (k : ℕ) (ts : List ParsedLine) → RiseFrom k (events_of ts) → RiseFrom k (map (by_names names) ts)
 still_rise names k [] h = tt
 still_rise names k (t ∷ ts) h = (h.0, still_rise names t.event.key ts h.1)
 
@@ -243,13 +243,13 @@ few_kept : (ks names : Names) → length (fold (insert_key same_name) ks names) 
 few_kept ks [] = omega arith
 few_kept ks (k ∷ names) = omega (arith, few_more ks k, few_kept (insert_key same_name ks k) names)
 
-few_told : (h : ℕ) (ts : List Told) → length (names_told h ts) ≤ length ts
+few_told : (h : ℕ) (ts : List ParsedLine) → length (names_parsed h ts) ≤ length ts
 few_told h [] = omega arith
 few_told h (t ∷ ts) = by ((t.event.event.host == h) && carries_name t.event.event.kind) (few_told h ts)
   where
-    by : (b : Bool) → length (names_told h ts) ≤ length ts → length (if b then t.name ∷ names_told h ts else names_told h ts) ≤ suc (length ts)
+    by : (b : Bool) → length (names_parsed h ts) ≤ length ts → length (if b then t.name ∷ names_parsed h ts else names_parsed h ts) ≤ suc (length ts)
     by true few = omega (arith, few)
     by false few = omega (arith, few)
 
-pub few_names : (h : ℕ) (ts : List Told) → length (names_of h ts) ≤ length ts
-few_names h ts = omega (arith, few_kept [] (names_told h ts), few_told h ts)
+pub few_names : (h : ℕ) (ts : List ParsedLine) → length (names_of h ts) ≤ length ts
+few_names h ts = omega (arith, few_kept [] (names_parsed h ts), few_told h ts)

@@ -11,7 +11,7 @@ pub on_ok : {A E : Type 0} {P Q : Type 0} (r : Result A E) → (P → Q) → OnO
 on_ok (Ok x) f h = f h
 on_ok (Err e) f h = h
 
--- a word, and what is behind it
+-- a word, and what is after it
 pub behind_word : (old mid new word fields : List ℕ) → mid ≡ old ++ word → new ≡ mid ++ fields → new ≡ old ++ (word ++ fields)
 behind_word old mid new word fields e f = f ∙ (ap (λ l. l ++ fields) e ∙ append_assoc old word fields)
 

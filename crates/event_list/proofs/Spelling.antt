@@ -11,7 +11,7 @@ use Rattle.std.proofs.lemmas.List.{map-append}
 use Rattle.trace_types.specs.ByteTexts.{byte_text, spelled, is_plain, hex_digit}
 use Rattle.trace_types.proofs.Decimals.{below_wide, decimal_high}
 use Rattle.trace_types.proofs.Everywhere.{all_weaker, all_both}
-use Rattle.event_list.specs.declared.told.Told.{Told}
+use Rattle.event_list.specs.declared.parsed_line.ParsedLine.{ParsedLine}
 use Rattle.event_list.specs.declared.name_word.NameWord.{NameWord}
 use Rattle.event_list.specs.declared.name_word.NameWord.TheVariants.{CallIn, CallOut, Other}
 use Rattle.event_list.specs.NameWords.{spelling}
@@ -19,7 +19,7 @@ use Rattle.event_list.proofs.KindViews.{by_kind, named_words}
 use Rattle.trace_types.specs.declared.event.KernelEvent.{KernelEvent}
 use Rattle.trace_types.specs.declared.event.KernelEvent.TheVariants.{Switch, Wakeup, WakeupNew, Waking, Fork, Exit, Free, Migrate, IrqIn, IrqOut, SoftIn, SoftOut, Process, Send, Receive, DiskIssue, DiskDone, Lost}
 use Rattle.trace_types.specs.declared.segment.SegKey.{SegKey}
-use Rattle.event_list.specs.Lines.{kind_words, plain_words, woken_words, segment_words, request_words, IsSegKey, IsRequested, told_words, IsKind, IsPlain, IsWoken, IsTold}
+use Rattle.event_list.specs.Lines.{kind_words, plain_words, woken_words, segment_words, request_words, IsSegKey, IsRequested, parsed_words, IsKind, IsPlain, IsWoken, IsParsedLine}
 
 -- every byte of the word is past the space
 abbrev pub IsWord : List ℕ → Type 0
@@ -136,7 +136,7 @@ name_word Other = search rules
 kind_are_words : (name : List ℕ) (k : KernelEvent) → IsKind name k → AreWords (kind_words (name ∷ []) k)
 kind_are_words name k h = elim (by_kind name k h) [ inl p ↦ subst AreWords (sym (p.words (name ∷ []))) (plain_are_words k p.plain) | inr n ↦ subst AreWords (sym (named_words name k n)) (name_word n.word, (byte_text_word name, tt)) ]
 
-pub are_words : (t : Told) → IsTold t → AreWords (told_words t)
+pub are_words : (t : ParsedLine) → IsParsedLine t → AreWords (parsed_words t)
 are_words t h =
     let m = t.event in
     (number m.key (2 ^ 62) h.key (omega arith), (number m.event.host 64 h.host (omega arith), (number m.event.cpu (2 ^ 32) h.cpu (omega arith), (number m.event.time (2 ^ 62) h.time.1 (omega arith), kind_are_words t.name m.event.kind h.kind))))

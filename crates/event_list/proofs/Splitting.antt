@@ -6,7 +6,7 @@ use Rattle.std.proofs.lemmas.Bool.{eqb-false, eqb-true}
 use Rattle.trace_types.specs.declared.event.Event.{Event}
 use Rattle.trace_types.specs.declared.event.Merged.{Merged}
 use Rattle.trace_types.specs.declared.host.HostEvents.{HostEvents}
-use Rattle.event_list.specs.declared.told.Told.{Told}
+use Rattle.event_list.specs.declared.parsed_line.ParsedLine.{ParsedLine}
 use Rattle.event_list.specs.declared.trace.MergedTrace.{MergedTrace}
 use Rattle.event_list.specs.Names.{IsTrace}
 use Rattle.event_list.specs.Order.{host_count}
@@ -53,7 +53,7 @@ left_alone m ms host list found other is = record {
   incomplete = is.incomplete;
 }
 
--- hosts behind the event's own
+-- hosts after the event's own
 all_alone : (m : Merged) (ms : List Merged) (first : ℕ) (lists : List (List (List ℕ))) (hosts : List HostEvents) → m.event.host < first → AreHostsFrom ms first lists hosts → AreHostsFrom (ms ++ m ∷ []) first lists hosts
 all_alone m ms first [] [] below are = tt
 all_alone m ms first (list ∷ lists) (host ∷ hosts) below are =
@@ -83,7 +83,7 @@ one_more m ms first (list ∷ lists) (host ∷ hosts) zero old new e below at sa
 one_more m ms first (list ∷ lists) (host ∷ hosts) (suc k) old new e below at same more are =
     (left_alone m ms first list host (λ is. omega (arith, e, is)) are.0, one_more m ms (suc first) lists hosts k old new (omega (arith, e)) (omega (arith, below)) at same more are.1)
 
--- a host without events behind others
+-- a host without events after others
 pub host_behind : (ms : List Merged) (first : ℕ) (lists : List (List (List ℕ))) (hosts : List HostEvents) (list : List (List ℕ)) (found : HostEvents) → AreHostsFrom ms first lists hosts → (n : ℕ) → n ≡ first + length hosts → IsHostOf ms n list found → AreHostsFrom ms first (lists ++ list ∷ []) (hosts ++ found ∷ [])
 host_behind ms first [] [] list found are n e is = (let same : n ≡ first = omega (arith, e) in subst (λ k. IsHostOf ms k list found) same is, tt)
 host_behind ms first (l ∷ lists) (h ∷ hosts) list found are n e is = (are.0, host_behind ms (suc first) lists hosts list found are.1 n (omega (arith, e)) is)
@@ -110,5 +110,5 @@ hosts_below n [] h = tt
 hosts_below n (m ∷ ms) h = (omega (arith, h), hosts_below n ms (omega (arith, h)))
 
 -- the hosts of a list that was read have names
-pub have_names : (tolds : List Told) (trace : MergedTrace) → IsTrace tolds trace → AllByRecursion (λ m. m.event.host < length trace.names.items) trace.events.items
-have_names tolds trace t = hosts_below (length trace.names.items) trace.events.items (omega (arith, t.hosts))
+pub have_names : (parsed_lines : List ParsedLine) (trace : MergedTrace) → IsTrace parsed_lines trace → AllByRecursion (λ m. m.event.host < length trace.names.items) trace.events.items
+have_names parsed_lines trace t = hosts_below (length trace.names.items) trace.events.items (omega (arith, t.hosts))

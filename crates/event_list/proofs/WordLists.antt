@@ -5,8 +5,8 @@ use Rattle.std.specs.Fmt.{decimal}
 use Rattle.trace_types.specs.Numbers.{IsNumber, IsSigned}
 use Rattle.std.proofs.Math.Seq.{take-length}
 use Rattle.std.proofs.lemmas.List.{length-map}
-use Rattle.event_list.specs.declared.told.Told.{Told}
-use Rattle.event_list.specs.declared.told.ToldKind.{ToldKind}
+use Rattle.event_list.specs.declared.parsed_line.ParsedLine.{ParsedLine}
+use Rattle.event_list.specs.declared.parsed_line.ParsedKind.{ParsedKind}
 use Rattle.event_list.specs.declared.place.Place.{Place}
 use Rattle.trace_types.proofs.Decimals.{same_number, below_wide}
 use Rattle.trace_types.specs.declared.event.KernelEvent.{KernelEvent}
@@ -106,34 +106,34 @@ no_time key host cpu time t is zero_time p place =
 behind : (a b c d : Bor (List ℕ)) (vs : List (Bor (List ℕ))) → take (length (a ∷ b ∷ c ∷ d ∷ vs) - 4) vs ≡ vs
 behind a b c d vs = ap (λ n. take n vs) (omega arith) ∙ take-length vs
 
-abbrev pub told_of : Place → ToldKind → Told
-told_of p k = record { event = record { key = p.key; event = record { time = p.time; host = p.host; cpu = p.cpu; kind = k.kind } }; name = k.name }
+abbrev pub parsed_line_of : Place → ParsedKind → ParsedLine
+parsed_line_of p k = record { event = record { key = p.key; event = record { time = p.time; host = p.host; cpu = p.cpu; kind = k.kind } }; name = k.name }
 
 -- four words of a place, and those of a kind
-pub line_there : (ws : List (Bor (List ℕ))) (p : Place) (k : ToldKind) → 4 ≤ length ws → IsPlace (word ws 0) (word ws 1) (word ws 2) (word ws 3) p → IsKindLine (texts (take (length ws - 4) (drop 4 ws))) k → IsLine (texts ws) (told_of p k)
+pub line_there : (ws : List (Bor (List ℕ))) (p : Place) (k : ParsedKind) → 4 ≤ length ws → IsPlace (word ws 0) (word ws 1) (word ws 2) (word ws 3) p → IsKindLine (texts (take (length ws - 4) (drop 4 ws))) k → IsLine (texts ws) (parsed_line_of p k)
 line_there (a ∷ b ∷ c ∷ d ∷ vs) p k some place line =
     let spelled : texts vs ≡ kind_words (k.name ∷ []) k.kind = ap texts (sym (behind a b c d vs)) ∙ line.spelling in
     record {
       spelling = rw (place.key_is, place.host_is, place.cpu_is, place.time_is, spelled) refl;
-      is_told = record { key = place.key_below; host = place.host_below; cpu = place.cpu_below; time = place.time_in; kind = line.is_kind };
+      is_parsed_line = record { key = place.key_below; host = place.host_below; cpu = place.cpu_below; time = place.time_in; kind = line.is_kind };
     }
 line_there [] p k some place line = absurd (omega (arith, some))
 line_there (a ∷ []) p k some place line = absurd (omega (arith, some))
 line_there (a ∷ b ∷ []) p k some place line = absurd (omega (arith, some))
 line_there (a ∷ b ∷ c ∷ []) p k some place line = absurd (omega (arith, some))
 
-abbrev pub place_of : Told → Place
+abbrev pub place_of : ParsedLine → Place
 place_of t = record { key = t.event.key; host = t.event.event.host; cpu = t.event.event.cpu; time = t.event.event.time }
 
-pub no_place_there : (ws : List (Bor (List ℕ))) → ((p : Place) → ¬ (IsPlace (word ws 0) (word ws 1) (word ws 2) (word ws 3) p)) → (t : Told) → ¬ (IsLine (texts ws) t)
+pub no_place_there : (ws : List (Bor (List ℕ))) → ((p : Place) → ¬ (IsPlace (word ws 0) (word ws 1) (word ws 2) (word ws 3) p)) → (t : ParsedLine) → ¬ (IsLine (texts ws) t)
 no_place_there ws none t line =
     let e = line.spelling in
-    let is = line.is_told in
+    let is = line.is_parsed_line in
     none (place_of t) (record { key_is = word_is ws _ 0 e; key_below = is.key; host_is = word_is ws _ 1 e; host_below = is.host; cpu_is = word_is ws _ 2 e; cpu_below = is.cpu; time_is = word_is ws _ 3 e; time_in = is.time })
 
-pub no_kind_there : (ws : List (Bor (List ℕ))) → 4 ≤ length ws → ((k : ToldKind) → ¬ (IsKindLine (texts (take (length ws - 4) (drop 4 ws))) k)) → (t : Told) → ¬ (IsLine (texts ws) t)
+pub no_kind_there : (ws : List (Bor (List ℕ))) → 4 ≤ length ws → ((k : ParsedKind) → ¬ (IsKindLine (texts (take (length ws - 4) (drop 4 ws))) k)) → (t : ParsedLine) → ¬ (IsLine (texts ws) t)
 no_kind_there (a ∷ b ∷ c ∷ d ∷ vs) some none t line =
-    none (record { kind = t.event.event.kind; name = t.name }) (record { spelling = ap texts (behind a b c d vs) ∙ rest (line.spelling); is_kind = line.is_told.kind })
+    none (record { kind = t.event.event.kind; name = t.name }) (record { spelling = ap texts (behind a b c d vs) ∙ rest (line.spelling); is_kind = line.is_parsed_line.kind })
   where
     rest : {p q r s : List ℕ} {us : List (List ℕ)} → texts (a ∷ b ∷ c ∷ d ∷ vs) ≡ p ∷ q ∷ r ∷ s ∷ us → texts vs ≡ us
     rest e = cc
@@ -142,5 +142,5 @@ no_kind_there (a ∷ []) some none t line = absurd (omega (arith, some))
 no_kind_there (a ∷ b ∷ []) some none t line = absurd (omega (arith, some))
 no_kind_there (a ∷ b ∷ c ∷ []) some none t line = absurd (omega (arith, some))
 
-pub too_short : (ws : List (Bor (List ℕ))) → length ws < 4 → (t : Told) → ¬ (IsLine (texts ws) t)
+pub too_short : (ws : List (Bor (List ℕ))) → length ws < 4 → (t : ParsedLine) → ¬ (IsLine (texts ws) t)
 too_short ws short t line = let size : length ws ≡ length (texts ws) = sym (length-map ws (λ w. w.now)) in omega (arith, short, size, ap length line.spelling)

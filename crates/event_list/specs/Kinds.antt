@@ -8,7 +8,7 @@ use Rattle.trace_types.specs.declared.event.KernelEvent.TheVariants as kind
 use Rattle.event_list.specs.declared.kind_word.KindWord.{KindWord}
 use Rattle.event_list.specs.declared.kind_word.KindWord.TheVariants.{Switch, Wakeup, WakeupNew, Waking, Fork, Exit, Free, Migrate, IrqIn, IrqOut, SoftIn, SoftOut, Process, Send, Receive, DiskIssue, DiskDone, Lost}
 use Rattle.trace_types.specs.declared.segment.SegKey.{SegKey}
-use Rattle.event_list.specs.Lines.{switch_words, woken_words, segment_words, request_words, loss_words, IsSwitched, IsWoken, IsSegKey, IsRequested}
+use Rattle.event_list.specs.Lines.{switch_words, woken_words, segment_words, request_words, lost_words, IsSwitched, IsWoken, IsSegKey, IsRequested}
 
 abbrev pub spelling : KindWord → List ℕ
 spelling Switch = codes "switch"
@@ -71,8 +71,8 @@ pub record IsRequest (fields : List (List ℕ)) (sector dev count : ℕ) : Type 
   pub fit : IsRequested sector dev count
 
 -- the fields are those of a mark of lost events
-pub record IsLoss (fields : List (List ℕ)) (events : ℕ) (gap : Bool) : Type 0 where
-  pub spelled : fields ≡ loss_words events gap
+pub record IsLost (fields : List (List ℕ)) (events : ℕ) (gap : Bool) : Type 0 where
+  pub spelled : fields ≡ lost_words events gap
   pub fit : events < 2 ^ 64
 
 -- the fields are those of an event whose kind has this name
@@ -94,4 +94,4 @@ IsOf Send fields k = (key : SegKey) × IsSegment fields key × (k ≡ kind.Send 
 IsOf Receive fields k = (key : SegKey) × IsSegment fields key × (k ≡ kind.Receive key)
 IsOf DiskIssue fields k = (sector : ℕ) × (dev : ℕ) × (count : ℕ) × IsRequest fields sector dev count × (k ≡ kind.DiskIssue sector dev count)
 IsOf DiskDone fields k = (sector : ℕ) × (dev : ℕ) × (count : ℕ) × IsRequest fields sector dev count × (k ≡ kind.DiskDone sector dev count)
-IsOf Lost fields k = (events : ℕ) × (gap : Bool) × IsLoss fields events gap × (k ≡ kind.Lost events gap)
+IsOf Lost fields k = (events : ℕ) × (gap : Bool) × IsLost fields events gap × (k ≡ kind.Lost events gap)

@@ -9,11 +9,11 @@ use Rattle.trace_types.specs.declared.event.Merged.{Merged}
 use Rattle.trace_types.specs.declared.segment.SegKey.{SegKey}
 use Rattle.trace_types.specs.declared.event.KernelEvent.{KernelEvent}
 use Rattle.trace_types.specs.declared.event.KernelEvent.TheVariants.{Switch, Wakeup, WakeupNew, Waking, Fork, Exit, Free, Migrate, IrqIn, IrqOut, SoftIn, SoftOut, Process, Send, Receive, DiskIssue, DiskDone, Lost, CallIn, CallOut, Other}
-use Rattle.trace_types.specs.Limits.{MAX_EVENTS}
+use Rattle.trace_types.specs.declared.limits.TheConstants.{MAX_EVENTS}
 use Rattle.trace_types.specs.Numbers.{IsNumber}
 use Rattle.event_list.specs.Order.{RiseFrom}
-use Rattle.event_list.specs.declared.told.Told.{Told}
-use Rattle.event_list.specs.declared.told.ToldKind.{ToldKind}
+use Rattle.event_list.specs.declared.parsed_line.ParsedLine.{ParsedLine}
+use Rattle.event_list.specs.declared.parsed_line.ParsedKind.{ParsedKind}
 use Rattle.event_list.specs.declared.place.Place.{Place}
 
 -- the fields of a switch
@@ -34,8 +34,8 @@ abbrev pub request_words : ℕ → ℕ → ℕ → List (List ℕ)
 request_words sector dev nr_sector = decimal dev ∷ decimal sector ∷ decimal nr_sector ∷ []
 
 -- the fields of a mark of lost events: how many, and 1 where packets are missing, else 0
-abbrev pub loss_words : ℕ → Bool → List (List ℕ)
-loss_words events gap = decimal events ∷ decimal (if gap then 1 else 0) ∷ []
+abbrev pub lost_words : ℕ → Bool → List (List ℕ)
+lost_words events gap = decimal events ∷ decimal (if gap then 1 else 0) ∷ []
 
 -- the words of a kind that carries no name of an event: its own name, and its fields as its tracepoint has them
 abbrev pub plain_words : KernelEvent → List (List ℕ)
@@ -56,7 +56,7 @@ plain_words (Send key) = codes "send" ∷ segment_words key
 plain_words (Receive key) = codes "receive" ∷ segment_words key
 plain_words (DiskIssue sector dev nr_sector) = codes "disk-issue" ∷ request_words sector dev nr_sector
 plain_words (DiskDone sector dev nr_sector) = codes "disk-done" ∷ request_words sector dev nr_sector
-plain_words (Lost events gap) = codes "lost" ∷ loss_words events gap
+plain_words (Lost events gap) = codes "lost" ∷ lost_words events gap
 plain_words kind = []
 
 -- the name of a number; the empty one where there is none
@@ -138,14 +138,14 @@ IsKind name (Other n) = (n ≡ 0) × AreBytes name
 IsKind name kind = (name ≡ []) × IsPlain kind
 
 -- the words of a line that was read by itself: its event has its name beside it
-abbrev pub told_words : Told → List (List ℕ)
-told_words t = words_of (t.name ∷ []) t.event
+abbrev pub parsed_words : ParsedLine → List (List ℕ)
+parsed_words t = words_of (t.name ∷ []) t.event
 
-abbrev pub told_text : Told → List ℕ
-told_text t = line_text (t.name ∷ []) t.event
+abbrev pub parsed_text : ParsedLine → List ℕ
+parsed_text t = line_text (t.name ∷ []) t.event
 
 -- the ranges of an event's fields
-pub record IsTold (t : Told) : Type 0 where
+pub record IsParsedLine (t : ParsedLine) : Type 0 where
   pub key : t.event.key < 2 ^ 62
   pub host : t.event.event.host < 64
   pub cpu : t.event.event.cpu < 2 ^ 32
@@ -153,9 +153,9 @@ pub record IsTold (t : Told) : Type 0 where
   pub kind : IsKind t.name t.event.event.kind
 
 -- the words are those of the event's line
-pub record IsLine (words : List (List ℕ)) (t : Told) : Type 0 where
-  pub spelling : words ≡ told_words t
-  pub is_told : IsTold t
+pub record IsLine (words : List (List ℕ)) (t : ParsedLine) : Type 0 where
+  pub spelling : words ≡ parsed_words t
+  pub is_parsed_line : IsParsedLine t
 
 -- the words are those of a kind without a name
 pub record IsPlainLine (words : List (List ℕ)) (k : KernelEvent) : Type 0 where
@@ -163,7 +163,7 @@ pub record IsPlainLine (words : List (List ℕ)) (k : KernelEvent) : Type 0 wher
   pub is_kind : IsPlain k
 
 -- the words are those of the kind, with its name
-pub record IsKindLine (words : List (List ℕ)) (t : ToldKind) : Type 0 where
+pub record IsKindLine (words : List (List ℕ)) (t : ParsedKind) : Type 0 where
   pub spelling : words ≡ kind_words (t.name ∷ []) t.kind
   pub is_kind : IsKind t.name t.kind
 
@@ -178,43 +178,43 @@ pub record IsPlace (key host cpu time : List ℕ) (p : Place) : Type 0 where
   pub time_is : IsNumber time p.time
   pub time_in : (1 ≤ p.time) × (p.time < 2 ^ 62)
 
-abbrev pub events_of : List Told → List Merged
-events_of tolds = map (λ t. t.event) tolds
+abbrev pub events_of : List ParsedLine → List Merged
+events_of parsed_lines = map (λ t. t.event) parsed_lines
 
 -- the text is these lines, with keys from `least` on that never fall
-pub record AreLines (least : ℕ) (tolds : List Told) (text : List ℕ) : Type 0 where
-  pub spelling : text ≡ flat_map told_text tolds
-  pub each : AllByRecursion IsTold tolds
-  pub order : RiseFrom least (events_of tolds)
+pub record AreLines (least : ℕ) (parsed_lines : List ParsedLine) (text : List ℕ) : Type 0 where
+  pub spelling : text ≡ flat_map parsed_text parsed_lines
+  pub each : AllByRecursion IsParsedLine parsed_lines
+  pub order : RiseFrom least (events_of parsed_lines)
 
 -- the bytes are the event list of these lines
-abbrev pub IsEventList : List ℕ → List Told → Type 0
-IsEventList bytes tolds = (text : List ℕ) × (bytes ≡ first_line ++ text) × AreLines 0 tolds text
+abbrev pub IsEventList : List ℕ → List ParsedLine → Type 0
+IsEventList bytes parsed_lines = (text : List ℕ) × (bytes ≡ first_line ++ text) × AreLines 0 parsed_lines text
 
 -- more lines than a list may have stand at the front of a text
 pub record HasMany (text : List ℕ) : Type 0 where
   pub front : List ℕ
   pub rest : List ℕ
   pub parts : text ≡ front ++ rest
-  pub tolds : List Told
-  pub lines : AreLines 0 tolds front
-  pub many : MAX_EVENTS < length tolds
+  pub parsed_lines : List ParsedLine
+  pub lines : AreLines 0 parsed_lines front
+  pub many : MAX_EVENTS < length parsed_lines
 
 -- the bytes begin with an event list of too many events
 abbrev pub IsCrowded : List ℕ → Type 0
 IsCrowded bytes = (text : List ℕ) × (bytes ≡ first_line ++ text) × HasMany text
 
--- lines stand at the front of a text, and no further line follows that could stand behind them
-pub record EndsBehind (text : List ℕ) (tolds : List Told) : Type 0 where
+-- lines stand at the front of a text, and no further line follows that could stand after them
+pub record EndsBehind (text : List ℕ) (parsed_lines : List ParsedLine) : Type 0 where
   pub front : List ℕ
   pub rest : List ℕ
   pub parts : text ≡ front ++ rest
-  pub lines : AreLines 0 tolds front
-  pub few : length tolds ≤ MAX_EVENTS
-  pub no_more : (t : Told) (after : List ℕ) → rest ≡ told_text t ++ after → ¬ (AreLines 0 (tolds ++ t ∷ []) (front ++ told_text t))
+  pub lines : AreLines 0 parsed_lines front
+  pub few : length parsed_lines ≤ MAX_EVENTS
+  pub no_more : (t : ParsedLine) (after : List ℕ) → rest ≡ parsed_text t ++ after → ¬ (AreLines 0 (parsed_lines ++ t ∷ []) (front ++ parsed_text t))
 
--- the first bad line, from 1: the first one, or the one behind the events, which aren't too many
+-- the first bad line, from 1: the first one, or the one after the events, which aren't too many
 abbrev pub IsFirstBad : List ℕ → ℕ → Type 0
 IsFirstBad bytes line =
     ((line ≡ 1) × ((text : List ℕ) → bytes ≢ first_line ++ text))
-    ⊎ ((text : List ℕ) × (tolds : List Told) × (bytes ≡ first_line ++ text) × EndsBehind text tolds × (line ≡ length tolds + 2))
+    ⊎ ((text : List ℕ) × (parsed_lines : List ParsedLine) × (bytes ≡ first_line ++ text) × EndsBehind text parsed_lines × (line ≡ length parsed_lines + 2))

@@ -6,7 +6,7 @@ use Rattle.trace_types.specs.declared.event.KernelEvent.{KernelEvent}
 use Rattle.trace_types.specs.declared.event.KernelEvent.TheVariants.{Switch, Wakeup, WakeupNew, Waking, Fork, Process, CallIn, CallOut, Other}
 use Rattle.event_list.specs.Lines.{AreBytes, name_at}
 use Rattle.event_list.specs.Names.{with_number}
-use Rattle.event_list.specs.declared.told.Told.{Told}
+use Rattle.event_list.specs.declared.parsed_line.ParsedLine.{ParsedLine}
 
 -- the texts that a kind's line spells: the names of its threads, and that of its event
 abbrev pub texts_in : List (List ℕ) → KernelEvent → List (List ℕ)
@@ -22,19 +22,19 @@ texts_in names (Other n) = name_at names n ∷ []
 texts_in names kind = []
 
 -- the name that a kind carries; the empty one where it carries none
-abbrev pub name_told : List (List ℕ) → KernelEvent → List ℕ
-name_told names (CallIn n) = name_at names n
-name_told names (CallOut n) = name_at names n
-name_told names (Other n) = name_at names n
-name_told names kind = []
+abbrev pub name_parsed : List (List ℕ) → KernelEvent → List ℕ
+name_parsed names (CallIn n) = name_at names n
+name_parsed names (CallOut n) = name_at names n
+name_parsed names (Other n) = name_at names n
+name_parsed names kind = []
 
 -- an event as its line tells it: its name stands in the place of the name's number
-abbrev pub told_of : List (List ℕ) → Merged → Told
-told_of names m = record { event = record { key = m.key; event = record { time = m.event.time; host = m.event.host; cpu = m.event.cpu; kind = with_number 0 m.event.kind } }; name = name_told names m.event.kind }
+abbrev pub parsed_line_of : List (List ℕ) → Merged → ParsedLine
+parsed_line_of names m = record { event = record { key = m.key; event = record { time = m.event.time; host = m.event.host; cpu = m.event.cpu; kind = with_number 0 m.event.kind } }; name = name_parsed names m.event.kind }
 
 -- all events, whose hosts have these names
-abbrev pub tolds_of : (ℕ → List (List ℕ)) → List Merged → List Told
-tolds_of names ms = map (λ m. told_of (names m.event.host) m) ms
+abbrev pub parsed_lines_of : (ℕ → List (List ℕ)) → List Merged → List ParsedLine
+parsed_lines_of names ms = map (λ m. parsed_line_of (names m.event.host) m) ms
 
 -- the texts that their lines spell are bytes
 abbrev pub SpellBytes : (ℕ → List (List ℕ)) → List Merged → Type 0

@@ -3,7 +3,7 @@ ghost use Rattle.std.specs.Prelude.{◌≡◌, ◌<◌, ◌^◌, IfSome, IfNone,
 ghost use Rattle.std.specs.Fmt.{decimal};
 ghost use Rattle.trace_types.specs.Numbers.{IsNumber};
 ghost use Rattle.trace_types.specs.declared.segment.SegKey.{SegKey};
-ghost use Rattle.event_list.specs.Kinds.{IsLoss, IsOf, IsRequest, IsSegment};
+ghost use Rattle.event_list.specs.Kinds.{IsLost, IsOf, IsRequest, IsSegment};
 ghost use Rattle.event_list.specs.declared.kind_word.KindWord.TheVariants.{Lost};
 ghost use Rattle.trace_types.specs.declared.event.KernelEvent.{KernelEvent};
 
@@ -44,7 +44,7 @@ pub fn read_request(fields: &[&[u8]]) -> Option<Request>
 }
 
 /// Reads the two fields of a mark of lost events.
-pub fn read_loss(fields: &[&[u8]]) -> Option<KernelEvent>
+pub fn read_lost(fields: &[&[u8]]) -> Option<KernelEvent>
     ensures found { IfSome result (λ k. IsOf Lost (map (λ w. w.now) fields.now) k) }
     ensures none { IfNone result ((k : KernelEvent) → ¬ (IsOf Lost (map (λ w. w.now) fields.now) k)) }
 {

@@ -2,22 +2,22 @@
 ghost use Rattle.std.specs.Prelude.{IfOk, IfSome, IfNone, map};
 ghost use Rattle.event_list.specs.Lines.{IsKindLine, IsPlainLine};
 ghost use Rattle.event_list.specs.Kinds.{IsOf};
-ghost use Rattle.event_list.specs.declared.told.ToldKind.{ToldKind};
+ghost use Rattle.event_list.specs.declared.parsed_line.ParsedKind.{ParsedKind};
 ghost use Rattle.trace_types.specs.declared.event.KernelEvent.{KernelEvent};
 
 use crate::fields::{read_fork, read_migrate, read_process, read_switch, read_woken};
-use crate::io_fields::{read_loss, read_request, read_segment};
+use crate::io_fields::{read_lost, read_request, read_segment};
 use crate::kind_word::{KindWord, read_kind_word};
 use crate::name_word::{read_name, read_name_word};
 use crate::one::read_one;
-use crate::told::ToldKind;
+use crate::parsed_line::ParsedKind;
 use std::alloc::Global;
 use trace_types::{KernelEvent, OutOfMemory, Text};
 
 /// Reads the words of a kind, with the name of its event where it carries one.
-pub fn read_kind(alloc: Global, words: &[&[u8]]) -> Result<Option<ToldKind>, OutOfMemory>
+pub fn read_kind(alloc: Global, words: &[&[u8]]) -> Result<Option<ParsedKind>, OutOfMemory>
     ensures found { IfOk result (λ read. IfSome read (λ t. IsKindLine (map (λ w. w.now) words.now) t)) }
-    ensures none { IfOk result (λ read. IfNone read ((t : ToldKind) → ¬ (IsKindLine (map (λ w. w.now) words.now) t))) }
+    ensures none { IfOk result (λ read. IfNone read ((t : ParsedKind) → ¬ (IsKindLine (map (λ w. w.now) words.now) t))) }
 {
     let [word, fields @ ..] = words else {
         return Ok(None);
@@ -27,13 +27,13 @@ pub fn read_kind(alloc: Global, words: &[&[u8]]) -> Result<Option<ToldKind>, Out
             return Ok(None);
         };
         let kind = word.kind(0);
-        return Ok(Some(ToldKind { kind, name }));
+        return Ok(Some(ParsedKind { kind, name }));
     }
     let Some(kind) = read_plain(words) else {
         return Ok(None);
     };
     let name = Text::from_bytes(alloc, &[])?;
-    Ok(Some(ToldKind { kind, name }))
+    Ok(Some(ParsedKind { kind, name }))
 }
 
 // Reads the words of a kind that carries no name of an event: its own name, and its fields.
@@ -73,6 +73,6 @@ fn read_fields(word: KindWord, fields: &[&[u8]]) -> Option<KernelEvent>
         },
         KindWord::DiskIssue => read_request(fields)?.issue(),
         KindWord::DiskDone => read_request(fields)?.done(),
-        KindWord::Lost => read_loss(fields)?,
+        KindWord::Lost => read_lost(fields)?,
     })
 }

@@ -1,13 +1,13 @@
 //! Reading a whole event list.
 ghost use Rattle.std.specs.Prelude.{◌≡◌, ◌≤◌, ◌<◌, ◌+◌, ℕ, List, IfOk, Err, length, take};
-ghost use Rattle.trace_types.specs.Limits.{MAX_EVENTS};
+ghost use Rattle.trace_types.specs.declared.limits.TheConstants.{MAX_EVENTS};
 ghost use Rattle.event_list.specs.Lines.{AreLines, EndsBehind, HasMany, IsCrowded, IsEventList, IsFirstBad};
 ghost use Rattle.std.specs.List.{AllByRecursion};
 ghost use Rattle.event_list.specs.Names.{IsTrace, lines_of, names_at};
 ghost use Rattle.event_list.specs.Numbering.{IsNumbered};
 ghost use Rattle.event_list.specs.Order.{host_count};
 ghost use Rattle.event_list.specs.declared.list.ListError.TheVariants.{BadLine, TooManyEvents};
-ghost use Rattle.event_list.specs.declared.told.Told.{Told};
+ghost use Rattle.event_list.specs.declared.parsed_line.ParsedLine.{ParsedLine};
 
 use crate::line::read_event;
 use crate::names::NameTable;
@@ -53,15 +53,15 @@ impl From<OutOfMemory> for ListError {
 /// greatest, in the order in which they first appear. A bad line is the first one that isn't in the format. A list
 /// has too many events where more than 2,097,152 stand before a bad line or in all.
 pub fn read_list(alloc: Global, bytes: &[u8]) -> Result<MergedTrace, ListError>
-    ensures list { IfOk result (λ trace. (tolds : List Told) × IsEventList bytes.now tolds × IsTrace tolds trace) }
+    ensures list { IfOk result (λ trace. (parsed_lines : List ParsedLine) × IsEventList bytes.now parsed_lines × IsTrace parsed_lines trace) }
     ensures few { IfOk result (λ trace. length trace.events.items ≤ MAX_EVENTS) }
     ensures hosts { IfOk result (λ trace. AllByRecursion (λ m. m.event.host < length trace.names.items) trace.events.items) }
     ensures few_hosts { IfOk result (λ trace. length trace.names.items ≤ 64) }
     ensures again { IfOk result (λ trace. bytes.now ≡ lines_of (names_at trace.names.items) trace.events.items) }
-    ensures bad { (line : ℕ) → result ≡ Err (BadLine line) → (tolds : List Told) → ¬ (IsEventList bytes.now tolds) }
+    ensures bad { (line : ℕ) → result ≡ Err (BadLine line) → (parsed_lines : List ParsedLine) → ¬ (IsEventList bytes.now parsed_lines) }
     ensures line { (line : ℕ) → result ≡ Err (BadLine line) → IsFirstBad bytes.now line }
     ensures many { result ≡ Err TooManyEvents → IsCrowded bytes.now }
-    ensures all { result ≡ Err TooManyEvents → (tolds : List Told) → IsEventList bytes.now tolds → MAX_EVENTS < length tolds }
+    ensures all { result ≡ Err TooManyEvents → (parsed_lines : List ParsedLine) → IsEventList bytes.now parsed_lines → MAX_EVENTS < length parsed_lines }
 {
     let Some((first, text)) = cut_at(bytes, b'\n') else {
         return Err(ListError::BadLine { line: 1 });
@@ -74,14 +74,14 @@ pub fn read_list(alloc: Global, bytes: &[u8]) -> Result<MergedTrace, ListError>
     Ok(MergedTrace { events, names })
 }
 
-// The events of the lines behind the first.
+// The events of the lines after the first.
 fn read_lines(alloc: Global, text: &[u8]) -> Result<Numbering, ListError>
-    ensures lines { IfOk result (λ read. (tolds : List Told) × AreLines 0 tolds text.now × IsNumbered tolds read) }
+    ensures lines { IfOk result (λ read. (parsed_lines : List ParsedLine) × AreLines 0 parsed_lines text.now × IsNumbered parsed_lines read) }
     ensures few { IfOk result (λ read. length read.events.items ≤ MAX_EVENTS) }
-    ensures bad { (line : ℕ) → result ≡ Err (BadLine line) → (tolds : List Told) → ¬ (AreLines 0 tolds text.now) }
-    ensures line { (line : ℕ) → result ≡ Err (BadLine line) → (tolds : List Told) × EndsBehind text.now tolds × (line ≡ length tolds + 2) }
+    ensures bad { (line : ℕ) → result ≡ Err (BadLine line) → (parsed_lines : List ParsedLine) → ¬ (AreLines 0 parsed_lines text.now) }
+    ensures line { (line : ℕ) → result ≡ Err (BadLine line) → (parsed_lines : List ParsedLine) × EndsBehind text.now parsed_lines × (line ≡ length parsed_lines + 2) }
     ensures many { result ≡ Err TooManyEvents → HasMany text.now }
-    ensures all { result ≡ Err TooManyEvents → (tolds : List Told) → AreLines 0 tolds text.now → MAX_EVENTS < length tolds }
+    ensures all { result ≡ Err TooManyEvents → (parsed_lines : List ParsedLine) → AreLines 0 parsed_lines text.now → MAX_EVENTS < length parsed_lines }
 {
     let mut read = Numbering::new(alloc)?;
     let mut words = Vec::new(alloc);
@@ -92,23 +92,23 @@ fn read_lines(alloc: Global, text: &[u8]) -> Result<Numbering, ListError>
             return Err(bad_line(&read.events));
         };
         split_words(line, &mut words)?;
-        let Some(told) = read_event(alloc, &words)? else {
+        let Some(parsed) = read_event(alloc, &words)? else {
             return Err(bad_line(&read.events));
         };
-        if told.event.key < least {
+        if parsed.event.key < least {
             return Err(bad_line(&read.events));
         }
         if read.events.len() as u64 >= MAX_EVENTS {
             return Err(ListError::TooManyEvents);
         }
-        least = told.event.key;
-        read.add(told)?;
+        least = parsed.event.key;
+        read.add(parsed)?;
         rest = after;
     }
     Ok(read)
 }
 
-// The line behind those of the events, which is bad.
+// The line after those of the events, which is bad.
 fn bad_line(events: &[Merged]) -> ListError
     ensures { result ≡ BadLine (length events.now + 2) }
 {

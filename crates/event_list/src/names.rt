@@ -34,7 +34,7 @@ impl NameTable {
         }
     }
 
-    /// The place of a name, which goes last where it isn't there. The only error is want of memory.
+    /// The place of a name, which goes last where it isn't there. The only error is lack of memory.
     pub fn number(&mut self, name: Text) -> Result<u32, OutOfMemory>
         requires { length self.old < 2 ^ 32 }
         ensures number { IfOk result (λ n. n ≡ position_or_len (same_name name) self.old) }

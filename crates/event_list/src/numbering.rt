@@ -6,12 +6,9 @@ ghost use Rattle.event_list.specs.Names.{carries_name, names_at, numbered_in, sa
 ghost use Rattle.event_list.specs.Numbering.{Adds, HasTables};
 
 use crate::names::NameTable;
-use crate::told::Told;
+use crate::parsed_line::ParsedLine;
 use std::alloc::Global;
-use trace_types::{Event, KernelEvent, Merged, OutOfMemory, Text};
-
-/// How many hosts there can be.
-const HOSTS: usize = 64;
+use trace_types::{Event, KernelEvent, MAX_HOSTS, Merged, OutOfMemory, Text};
 
 /// The events of the lines so far, and the names that each host's carry.
 #[derive(Debug, Drop)]
@@ -27,21 +24,21 @@ impl Numbering {
         ensures tables { IfOk result (λ n. n.tables.items ≡ replicate 64 []) }
     {
         let mut tables = Vec::new(alloc);
-        for _ in 0..HOSTS {
+        for _ in 0..MAX_HOSTS {
             tables.push(NameTable::new(alloc))?;
         }
         let events = Vec::new(alloc);
         Ok(Numbering { events, tables })
     }
 
-    /// Adds the event of a line, with the number of its name. The only error is want of memory.
-    pub fn add(&mut self, told: Told) -> Result<(), OutOfMemory>
+    /// Adds the event of a line, with the number of its name. The only error is lack of memory.
+    pub fn add(&mut self, parsed: ParsedLine) -> Result<(), OutOfMemory>
         requires tables { HasTables self.old }
-        requires host { told.event.event.host < 64 }
-        requires names { length (names_at self.old.tables.items told.event.event.host) < 2 ^ 32 }
-        ensures { OnOk result (Adds self.old told self.new) }
+        requires host { parsed.event.event.host < 64 }
+        requires names { length (names_at self.old.tables.items parsed.event.event.host) < 2 ^ 32 }
+        ensures { OnOk result (Adds self.old parsed self.new) }
     {
-        let event = number(&mut self.tables, told.event, told.name)?;
+        let event = number(&mut self.tables, parsed.event, parsed.name)?;
         self.events.push(event)?;
         Ok(())
     }

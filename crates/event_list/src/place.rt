@@ -3,7 +3,7 @@ ghost use Rattle.std.specs.Prelude.{IfSome, IfNone};
 ghost use Rattle.event_list.specs.Lines.{IsPlace};
 ghost use Rattle.event_list.specs.declared.place.Place.{Place};
 
-use trace_types::{TIME_END, read_number_below};
+use trace_types::{MAX_HOSTS, TIME_END, read_number_below};
 
 /// Key and time in ns, host and processor.
 #[derive(Clone, Copy)]
@@ -20,7 +20,7 @@ pub fn read_place(key: &[u8], host: &[u8], cpu: &[u8], time: &[u8]) -> Option<Pl
     ensures none { IfNone result ((p : Place) → ¬ (IsPlace key.now host.now cpu.now time.now p)) }
 {
     let key = read_number_below(key, TIME_END)?;
-    let host = read_number_below(host, 64)? as u32;
+    let host = read_number_below(host, MAX_HOSTS as u64)? as u32;
     let cpu = read_number_below(cpu, 1 << 32)? as u32;
     let time = read_number_below(time, TIME_END)?;
     if time == 0 {

@@ -10,7 +10,7 @@ use std::alloc::Global;
 use trace_types::{Event, HostEvents, Merged, OutOfMemory, Text};
 
 /// The events of each host in their order, with its names. There is a host for each list of names, with no packets
-/// and an empty hostname. The only error is want of memory.
+/// and an empty hostname. The only error is lack of memory.
 pub fn split_hosts(trace: &MergedTrace) -> Result<Vec<HostEvents>, OutOfMemory>
     requires hosts { AllByRecursion (λ m. m.event.host < length trace.now.names.items) trace.now.events.items }
     requires few { length trace.now.names.items < 2 ^ 32 }

@@ -8,7 +8,7 @@ ghost use Rattle.event_list.specs.Spaced.{spaced};
 
 use crate::thread::NamedThread;
 use crate::write_fields::{
-    append, write_bytes, write_loss, write_name, write_number, write_request, write_segment,
+    append, write_bytes, write_lost, write_name, write_number, write_request, write_segment,
     write_switch, write_woken,
 };
 use itoa::Buffer;
@@ -17,7 +17,7 @@ use trace_types::{Event, KernelEvent, Merged, OutOfMemory, Text};
 // Most lines are shorter, in bytes.
 const LINE: usize = 128;
 
-/// Appends the line of an event. `names` are those of its host. The only error is want of memory, after which nothing
+/// Appends the line of an event. `names` are those of its host. The only error is lack of memory, after which nothing
 /// has changed.
 pub fn write_line(event: &Merged, names: &[Text], out: &mut Vec<u8>) -> Result<(), OutOfMemory>
     ensures text { OnOk result (out.new.items ≡ out.old.items ++ line_text names.now event.now) }
@@ -30,7 +30,7 @@ pub fn write_line(event: &Merged, names: &[Text], out: &mut Vec<u8>) -> Result<(
     Ok(())
 }
 
-// The same, where a front of the line may be left behind.
+// The same, where a front of the line may be left after it.
 #[tactic(auto, using(crate::proofs::Spaced::line_is))]
 fn write_words(event: &Merged, names: &[Text], out: &mut Vec<u8>) -> Result<(), OutOfMemory>
     ensures text { OnOk result (out.new.items ≡ out.old.items ++ line_text names.now event.now) }
@@ -193,7 +193,7 @@ fn write_kind(kind: &KernelEvent, names: &[Text], out: &mut Vec<u8>) -> Result<(
         }
         KernelEvent::Lost { events, gap } => {
             append(b" lost", out)?;
-            write_loss(events, gap, out)
+            write_lost(events, gap, out)
         }
         KernelEvent::Other { name } => {
             append(b" other", out)?;

@@ -2,7 +2,7 @@
 ghost use Rattle.std.specs.Prelude.{◌≡◌, ◌++◌, ◌∷◌, [], OnOk};
 ghost use Rattle.std.specs.Fmt.{decimal, signed_decimal};
 ghost use Rattle.trace_types.specs.ByteTexts.{byte_text};
-ghost use Rattle.event_list.specs.Lines.{AreBytes, loss_words, name_at, request_words, segment_words, switch_words, woken_words};
+ghost use Rattle.event_list.specs.Lines.{AreBytes, lost_words, name_at, request_words, segment_words, switch_words, woken_words};
 ghost use Rattle.event_list.specs.Spaced.{spaced};
 
 use crate::thread::NamedThread;
@@ -109,8 +109,8 @@ fn write_ends(key: &SegKey, out: &mut Vec<u8>) -> Result<(), OutOfMemory>
 }
 
 /// Appends the fields of a mark of lost events.
-pub fn write_loss(events: u64, gap: bool, out: &mut Vec<u8>) -> Result<(), OutOfMemory>
-    ensures { OnOk result (out.new.items ≡ out.old.items ++ spaced (loss_words events gap)) }
+pub fn write_lost(events: u64, gap: bool, out: &mut Vec<u8>) -> Result<(), OutOfMemory>
+    ensures { OnOk result (out.new.items ≡ out.old.items ++ spaced (lost_words events gap)) }
 {
     write_number(events, out)?;
     write_number(u8::from(gap), out)

@@ -3,11 +3,11 @@ use Rattle.std.proofs.Common.{◌≡◌, ℕ, ℤ, pos, negsuc, zero, suc, ◌<�
 use Rattle.std.specs.Prelude.{◌&&◌, ◌==◌, ◌+◌, ◌*◌, nat_eq, nat_le, not, drop, unwrap_or}
 use Rattle.std.specs.List.{AllByRecursion}
 use Rattle.std.proofs.lemmas.Bool.{leb-true}
-use Rattle.type_table.specs.ToldKept.{MetaParts}
+use Rattle.type_table.specs.TraceMetas.{MetaParts}
 use Rattle.trace_types.specs.declared.event.Event.{Event}
 use Rattle.trace_types.specs.declared.cause.Cause.{Cause}
 use Rattle.trace_types.specs.declared.cause.Cause.TheVariants as cause
-use Rattle.ctf_fields.specs.declared.around.Scopes.{Scopes}
+use Rattle.ctf_fields.specs.declared.open_struct.Scopes.{Scopes}
 use Rattle.ctf_fields.specs.declared.field.Field.{Field}
 use Rattle.ctf_fields.specs.declared.raw.RawEvent.{RawEvent}
 use Rattle.packet_decoder.specs.declared.events.Cursor.{Cursor}
@@ -17,22 +17,22 @@ use Rattle.packet_decoder.specs.declared.piece.PacketResult.{PacketResult}
 use Rattle.packet_decoder.specs.declared.piece.PacketResult.TheVariants as result
 use Rattle.packet_decoder.specs.declared.piece.Piece.{Piece}
 use Rattle.packet_decoder.specs.declared.piece.Piece.TheVariants as piece
-use Rattle.packet_decoder.specs.declared.times.Stamp.{Stamp}
-use Rattle.packet_decoder.specs.Headings.{and_then, heading}
-use Rattle.packet_decoder.specs.Times.{advanced, clock_of, in_range, rate_of, time_of, timed}
+use Rattle.packet_decoder.specs.declared.times.Timestamp.{Timestamp}
+use Rattle.packet_decoder.specs.PacketHeads.{and_then, packet_head}
+use Rattle.packet_decoder.specs.Times.{clock_after, clock_of, in_range, rate_of, time_of, time_after}
 use Rattle.packet_decoder.specs.Events.{Within, as_packet, cleared, decoded, event, event_added, event_body, event_head, event_timed, events_from, field_or_none, packet_events, with_event_header, within}
-use Rattle.decode_pool.specs.declared.part.Kept.{Kept}
-use Rattle.decode_pool.specs.declared.part.Part.{Part}
-use Rattle.decode_pool.specs.declared.part.Part.TheVariants as part
-use Rattle.decode_pool.specs.declared.loss.Loss.{Loss}
-use Rattle.decode_pool.specs.declared.loss.Counts.{Counts}
+use Rattle.decode_pool.specs.declared.decoded_packet.AcceptedPacket.{AcceptedPacket}
+use Rattle.decode_pool.specs.declared.decoded_packet.DecodedPacket.{DecodedPacket}
+use Rattle.decode_pool.specs.declared.decoded_packet.DecodedPacket.TheVariants as part
+use Rattle.decode_pool.specs.declared.lost_events.LostEvents.{LostEvents}
+use Rattle.decode_pool.specs.declared.lost_events.Counts.{Counts}
 use Rattle.decode_pool.specs.declared.files.FileBytes.{FileBytes}
 use Rattle.decode_pool.specs.Parts.{event_of, part_by, part_of, parts_of}
 use Rattle.trace_types.specs.declared.event.KernelEvent.TheVariants.{Lost}
-use Rattle.decode_pool.specs.Marks.{added, added_by, and_lost, counts_of, file_events, kept_in, left, listed, mark, no_counts, nothing_lost}
+use Rattle.decode_pool.specs.Marks.{added, added_by, plus_lost, counts_of, file_events, accepted_in, left, listed, mark, no_counts, nothing_lost}
 use Rattle.decode_pool.specs.Hosts.{all_events}
 use Rattle.packet_decoder.specs.Pieces.{packet_at, pieces, pieces_by, pieces_from, span_by, span_of}
-use Rattle.packet_decoder.specs.declared.heading.Heading.{Heading}
+use Rattle.packet_decoder.specs.declared.packet_head.PacketHead.{PacketHead}
 use Rattle.ctf_fields.specs.Values.{below_if_any, value_named}
 use Rattle.type_table.specs.Table.{Table}
 use Rattle.event_merge.proofs.KindRanges.{Fits, kind_fits}
@@ -61,12 +61,12 @@ ranged (pos m) n e = by (nat_le 1 m) (nat_le m 4611686018427387903) refl refl e
     by false c l h e = absurd (cc)
 ranged (negsuc m) n e = absurd (cc)
 
-timed_ranged : (meta : MetaParts) (stamp : Option Stamp) (clock : ℕ) (r : ℕ × ℕ) → timed meta stamp clock ≡ Ok r → InTime r.1
-unfolding timed
-timed_ranged meta stamp clock r e =
-    let one = made (advanced clock stamp) _ r e in
-    let two = made (in_range (time_of (rate_of meta (clock_of stamp)) one.0)) (λ time. Ok (one.0, time)) r one.2 in
-    subst InTime (ap (λ p. p.1) (from_okay (one.0, two.0) r two.2)) (ranged (time_of (rate_of meta (clock_of stamp)) one.0) two.0 two.1)
+timed_ranged : (meta : MetaParts) (timestamp : Option Timestamp) (clock : ℕ) (r : ℕ × ℕ) → time_after meta timestamp clock ≡ Ok r → InTime r.1
+unfolding time_after
+timed_ranged meta timestamp clock r e =
+    let one = made (clock_after clock timestamp) _ r e in
+    let two = made (in_range (time_of (rate_of meta (clock_of timestamp)) one.0)) (λ time. Ok (one.0, time)) r one.2 in
+    subst InTime (ap (λ p. p.1) (from_okay (one.0, two.0) r two.2)) (ranged (time_of (rate_of meta (clock_of timestamp)) one.0) two.0 two.1)
 
 -- the event of a packet of this processor
 abbrev Raw : ℕ → RawEvent → Type 0
@@ -75,11 +75,11 @@ Raw cpu r = InTime r.time × (r.cpu ≡ cpu)
 event_ranged : (w : Within) (c : Cursor) (head : EventHead) (fields : Option Field) (at : ℕ) (r : RawEvent × Cursor) → event_timed w c head fields at ≡ Ok r → Raw w.cpu r.0
 event_ranged w c head fields at r e = by (nat_eq at c.at) e
   where
-    by : (b : Bool) → (if b then Err cause.NoBits else and_then (timed w.meta head.stamp c.clock) (λ t. Ok (record { time = t.1; cpu = w.cpu; event = head.event; fields = field_or_none fields }, record { clock = t.0; at = at }))) ≡ Ok r → Raw w.cpu r.0
+    by : (b : Bool) → (if b then Err cause.NoBits else and_then (time_after w.meta head.timestamp c.clock) (λ t. Ok (record { time = t.1; cpu = w.cpu; event = head.event; fields = field_or_none fields }, record { clock = t.0; at = at }))) ≡ Ok r → Raw w.cpu r.0
     by true e = absurd (cc)
     by false e =
-        let t = made (timed w.meta head.stamp c.clock) _ r e in
-        (subst InTime (ap (λ p. p.0.time) (from_okay _ r t.2)) (timed_ranged w.meta head.stamp c.clock t.0 t.1), sym (ap (λ p. p.0.cpu) (from_okay _ r t.2)))
+        let t = made (time_after w.meta head.timestamp c.clock) _ r e in
+        (subst InTime (ap (λ p. p.0.time) (from_okay _ r t.2)) (timed_ranged w.meta head.timestamp c.clock t.0 t.1), sym (ap (λ p. p.0.cpu) (from_okay _ r t.2)))
 
 one_ranged : (w : Within) (s : Scopes) (c : Cursor) (r : RawEvent × Cursor) → event w s c ≡ Ok r → Raw w.cpu r.0
 unfolding event
@@ -112,7 +112,7 @@ packet_ranged (Err c) raws e = absurd (cc)
 decoded_ranged : (meta : MetaParts) (file : List ℕ) (span : PacketSpan) (raws : List RawEvent) → decoded meta file span ≡ result.Events raws → AllByRecursion (Raw span.cpu) raws
 unfolding decoded packet_events
 decoded_ranged meta file span raws e =
-    let h = made (heading meta (drop span.offset file)) (packet_events meta (drop span.offset file) span) raws (packet_ranged _ raws e) in
+    let h = made (packet_head meta (drop span.offset file)) (packet_events meta (drop span.offset file) span) raws (packet_ranged _ raws e) in
     from_ranged span.content_bits (within meta (drop span.offset file) span h.0) (cleared h.0.scopes) [] _ raws tt h.2
 
 -- an event of a host, as it stands on a line
@@ -120,13 +120,13 @@ pub record IsDecoded (host : ℕ) (meta : MetaParts) (e : Event) : Type 0 where
   pub time : InTime e.time
   pub host_is : e.host ≡ host
   pub cpu : e.cpu < 2 ^ 32
-  pub kind : Fits meta.told.event_names e.kind
+  pub kind : Fits meta.declared.event_names e.kind
 
-abbrev KeptGood : ℕ → MetaParts → Kept → Type 0
+abbrev KeptGood : ℕ → MetaParts → AcceptedPacket → Type 0
 KeptGood host meta k = (k.cpu < 2 ^ 32) × AllByRecursion (IsDecoded host meta) k.events
 
-abbrev PartGood : ℕ → MetaParts → Part → Type 0
-PartGood host meta (part.Kept k) = KeptGood host meta k
+abbrev PartGood : ℕ → MetaParts → DecodedPacket → Type 0
+PartGood host meta (part.Accepted k) = KeptGood host meta k
 PartGood host meta (part.Refused offset cause) = Unit {0}
 
 mapped : (host : ℕ) (meta : MetaParts) (cpu : ℕ) (raws : List RawEvent) → cpu < 2 ^ 32 → AllByRecursion (Raw cpu) raws → AllByRecursion (IsDecoded host meta) (map (event_of host meta) raws)
@@ -146,14 +146,14 @@ or_zero o = by (below_if_any 4294967296 o) refl
     by (Some n) e = lies 4294967296 o n e
     by None e = lit< tt
 
-span_cpu : (t : Table) (offset : ℕ) (context : Option Field) (h : Heading) (s : Option (ℕ × ℕ)) (span : PacketSpan) → span_by t offset context h s ≡ Ok span → span.cpu < 2 ^ 32
+span_cpu : (t : Table) (offset : ℕ) (context : Option Field) (h : PacketHead) (s : Option (ℕ × ℕ)) (span : PacketSpan) → span_by t offset context h s ≡ Ok span → span.cpu < 2 ^ 32
 span_cpu t offset context h (Some s) span e = subst (λ n. n < 2 ^ 32) (ap (λ p. p.cpu) (from_okay _ span e)) (or_zero (value_named t (codes "cpu_id") context))
 span_cpu t offset context h None span e = absurd (cc)
 
 packet_cpu : (meta : MetaParts) (offset : ℕ) (rest : List ℕ) (span : PacketSpan) → packet_at meta offset rest ≡ Ok span → span.cpu < 2 ^ 32
 unfolding packet_at span_of
 packet_cpu meta offset rest span e =
-    let h = made (heading meta rest) (span_of meta.table offset (8 * length rest)) span e in
+    let h = made (packet_head meta rest) (span_of meta.table offset (8 * length rest)) span e in
     span_cpu meta.table offset h.0.scopes.packet_context h.0 _ span h.2
 
 pieces_cpu : (most : ℕ) (meta : MetaParts) (offset : ℕ) (rest : List ℕ) → AllByRecursion PieceCpu (pieces_from most meta offset rest)
@@ -182,29 +182,29 @@ parts_good : (host : ℕ) (meta : MetaParts) (file : List ℕ) (ps : List Piece)
 parts_good host meta file [] few = tt
 parts_good host meta file (p ∷ ps) few = (piece_good host meta file p few.0, parts_good host meta file ps few.1)
 
-kept_good : (host : ℕ) (meta : MetaParts) (ps : List Part) → AllByRecursion (PartGood host meta) ps → AllByRecursion (KeptGood host meta) (kept_in ps)
+kept_good : (host : ℕ) (meta : MetaParts) (ps : List DecodedPacket) → AllByRecursion (PartGood host meta) ps → AllByRecursion (KeptGood host meta) (accepted_in ps)
 kept_good host meta [] h = tt
-kept_good host meta (part.Kept k ∷ ps) h = (h.0, kept_good host meta ps h.1)
+kept_good host meta (part.Accepted k ∷ ps) h = (h.0, kept_good host meta ps h.1)
 kept_good host meta (part.Refused offset cause ∷ ps) h = kept_good host meta ps h.1
 
-mark_good : (host : ℕ) (meta : MetaParts) (k : Kept) (first : Event) (loss : Loss) → loss.events < 2 ^ 64 → k.cpu < 2 ^ 32 → IsDecoded host meta first → AllByRecursion (IsDecoded host meta) (mark k first loss)
-mark_good host meta k first loss few cpu is = by (loss.events == 0 && not loss.gap)
+mark_good : (host : ℕ) (meta : MetaParts) (k : AcceptedPacket) (first : Event) (lost : LostEvents) → lost.events < 2 ^ 64 → k.cpu < 2 ^ 32 → IsDecoded host meta first → AllByRecursion (IsDecoded host meta) (mark k first lost)
+mark_good host meta k first lost few cpu is = by (lost.events == 0 && not lost.gap)
   where
-    by : (b : Bool) → AllByRecursion (IsDecoded host meta) (if b then [] else record { time = first.time; host = first.host; cpu = k.cpu; kind = Lost loss.events loss.gap } ∷ [])
+    by : (b : Bool) → AllByRecursion (IsDecoded host meta) (if b then [] else record { time = first.time; host = first.host; cpu = k.cpu; kind = Lost lost.events lost.gap } ∷ [])
     by true = tt
     by false = (record { time = is.time; host_is = is.host_is; cpu = cpu; kind = λ bytes. (refl, few) }, tt)
 
-added_good : (host : ℕ) (meta : MetaParts) (k : Kept) (loss : Loss) (es : List Event) → loss.events < 2 ^ 64 → k.cpu < 2 ^ 32 → AllByRecursion (IsDecoded host meta) es → AllByRecursion (IsDecoded host meta) (added_by k loss es)
-added_good host meta k loss [] few cpu h = tt
-added_good host meta k loss (e ∷ es) few cpu h = all_both (IsDecoded host meta) (mark k e loss) (e ∷ es) (mark_good host meta k e loss few cpu h.0) h
+added_good : (host : ℕ) (meta : MetaParts) (k : AcceptedPacket) (lost : LostEvents) (es : List Event) → lost.events < 2 ^ 64 → k.cpu < 2 ^ 32 → AllByRecursion (IsDecoded host meta) es → AllByRecursion (IsDecoded host meta) (added_by k lost es)
+added_good host meta k lost [] few cpu h = tt
+added_good host meta k lost (e ∷ es) few cpu h = all_both (IsDecoded host meta) (mark k e lost) (e ∷ es) (mark_good host meta k e lost few cpu h.0) h
 
-few_lost : (loss : Loss) (before now : Counts) → (and_lost loss before now).events < 2 ^ 64
-few_lost loss before now = omega arith
+few_lost : (lost : LostEvents) (before now : Counts) → (plus_lost lost before now).events < 2 ^ 64
+few_lost lost before now = omega arith
 
-listed_good : (host : ℕ) (meta : MetaParts) (before : Counts) (loss : Loss) (ks : List Kept) → AllByRecursion (KeptGood host meta) ks → AllByRecursion (IsDecoded host meta) (listed before loss ks)
-listed_good host meta before loss [] h = tt
-listed_good host meta before loss (k ∷ ks) h =
-    all_both (IsDecoded host meta) (added k (and_lost loss before (counts_of k))) _ (added_good host meta k (and_lost loss before (counts_of k)) k.events (few_lost loss before (counts_of k)) h.0.0 h.0.1) (listed_good host meta (counts_of k) (left k (and_lost loss before (counts_of k))) ks h.1)
+listed_good : (host : ℕ) (meta : MetaParts) (before : Counts) (lost : LostEvents) (ks : List AcceptedPacket) → AllByRecursion (KeptGood host meta) ks → AllByRecursion (IsDecoded host meta) (listed before lost ks)
+listed_good host meta before lost [] h = tt
+listed_good host meta before lost (k ∷ ks) h =
+    all_both (IsDecoded host meta) (added k (plus_lost lost before (counts_of k))) _ (added_good host meta k (plus_lost lost before (counts_of k)) k.events (few_lost lost before (counts_of k)) h.0.0 h.0.1) (listed_good host meta (counts_of k) (left k (plus_lost lost before (counts_of k))) ks h.1)
 
 pub all_decoded : (host : ℕ) (meta : MetaParts) (files : List FileBytes) → AllByRecursion (IsDecoded host meta) (all_events host meta files)
 all_decoded host meta [] = tt

@@ -5,7 +5,7 @@ use Rattle.std.specs.Prelude.{neg_ℤ, option_map, slice_get, unwrap_or, ◌||�
 use Rattle.std.specs.List.{AllByRecursion}
 use Rattle.type_table.specs.Table.{Table}
 use Rattle.type_table.specs.Types.{Text}
-use Rattle.type_table.specs.ToldKept.{MetaParts}
+use Rattle.type_table.specs.TraceMetas.{MetaParts}
 use Rattle.ctf_fields.specs.declared.field.Field.{Field}
 use Rattle.ctf_fields.specs.declared.raw.RawEvent.{RawEvent}
 use Rattle.trace_types.specs.declared.event.KernelEvent.{KernelEvent}
@@ -15,7 +15,7 @@ use Rattle.trace_types.specs.declared.woken.Woken.{Woken}
 use Rattle.trace_types.specs.declared.request.Request.{Request}
 use Rattle.event_list.specs.Lines.{AreBytes, IsKind, IsRequested, IsSegKey, IsWoken, is_call_in, is_call_out, name_at}
 use Rattle.event_list.specs.Names.{with_number}
-use Rattle.event_list.specs.Written.{name_told, texts_in}
+use Rattle.event_list.specs.Written.{name_parsed, texts_in}
 use Rattle.tsdl_parser.specs.Symbols.{is_text}
 use Rattle.kernel_layout.specs.declared.tracepoint.Tracepoint.{Tracepoint}
 use Rattle.kernel_layout.specs.declared.tracepoint.Tracepoint.TheVariants as point
@@ -26,7 +26,7 @@ use Rattle.event_merge.proofs.Ranges.{found, from_some, is_address, is_name, is_
 
 -- the kind fits a line, where its texts are bytes
 abbrev pub Fits : List (List ℕ) → KernelEvent → Type 0
-Fits names k = AllByRecursion AreBytes (texts_in names k) → IsKind (name_told names k) (with_number 0 k)
+Fits names k = AllByRecursion AreBytes (texts_in names k) → IsKind (name_parsed names k) (with_number 0 k)
 
 -- what was found fits
 abbrev FoundFits : List (List ℕ) → Option KernelEvent → Type 0
@@ -61,7 +61,7 @@ switch_fits names t f k e bytes =
     let nc = found (comm t f (codes "next_comm")) _ k pc.2 in
     let is : kind.Switch s.0 pt.0 nt.0 pp.0 np.0 pc.0 nc.0 ≡ k = from_some _ k nc.2 in
     let are = subst (λ k. AllByRecursion AreBytes (texts_in names k)) (sym is) bytes in
-    subst (λ k. IsKind (name_told names k) (with_number 0 k)) is
+    subst (λ k. IsKind (name_parsed names k) (with_number 0 k)) is
     (refl, (small_lies t f (codes "prev_tid") pt.0 pt.1, is_name t f (codes "prev_comm") pc.0 pc.1 are.0, priority_lies t f (codes "prev_prio") pp.0 pp.1, state_lies t f (codes "prev_state") s.0 s.1, small_lies t f (codes "next_tid") nt.0 nt.1, is_name t f (codes "next_comm") nc.0 nc.1 are.1.0, priority_lies t f (codes "next_prio") np.0 np.1))
 
 woken_lies : (t : Table) (f : Field) (w : Woken) → wakeup_fields t f ≡ Some w → AreBytes w.comm → IsWoken w.tid w.comm w.prio w.target_cpu
@@ -75,12 +75,12 @@ woken_lies t f w e bytes =
     (small_lies t f (codes "tid") tid.0 tid.1, is_name t f (codes "comm") c.0 c.1 (subst (λ (w : Woken). AreBytes w.comm) (sym is) bytes), priority_lies t f (codes "prio") p.0 p.1, small_lies t f (codes "target_cpu") cpu.0 cpu.1)
 
 woken_fits : (names : List (List ℕ)) (t : Table) (f : Field) (make : Woken → KernelEvent)
-    → ((w : Woken) → texts_in names (make w) ≡ w.comm ∷ []) → ((w : Woken) → IsWoken w.tid w.comm w.prio w.target_cpu → IsKind (name_told names (make w)) (with_number 0 (make w)))
+    → ((w : Woken) → texts_in names (make w) ≡ w.comm ∷ []) → ((w : Woken) → IsWoken w.tid w.comm w.prio w.target_cpu → IsKind (name_parsed names (make w)) (with_number 0 (make w)))
     → FoundFits names (option_map make (wakeup_fields t f))
 woken_fits names t f make texts fits k e bytes =
     let w = mapped make (wakeup_fields t f) k e in
     let are : AllByRecursion AreBytes (w.0.comm ∷ []) = subst (AllByRecursion AreBytes) (texts w.0) (subst (λ k. AllByRecursion AreBytes (texts_in names k)) w.2 bytes) in
-    subst (λ k. IsKind (name_told names k) (with_number 0 k)) (sym w.2) (fits w.0 (woken_lies t f w.0 w.1 are.0))
+    subst (λ k. IsKind (name_parsed names k) (with_number 0 k)) (sym w.2) (fits w.0 (woken_lies t f w.0 w.1 are.0))
 
 fork_fits : (names : List (List ℕ)) (t : Table) (f : Field) → FoundFits names (fork t f)
 fork_fits names t f k e bytes =
@@ -89,13 +89,13 @@ fork_fits names t f k e bytes =
     let n = found (comm t f (codes "child_comm")) _ k c.2 in
     let is : kind.Fork p.0 c.0 n.0 ≡ k = from_some _ k n.2 in
     let are = subst (λ k. AllByRecursion AreBytes (texts_in names k)) (sym is) bytes in
-    subst (λ k. IsKind (name_told names k) (with_number 0 k)) is (refl, (small_lies t f (codes "parent_tid") p.0 p.1, small_lies t f (codes "child_tid") c.0 c.1, is_name t f (codes "child_comm") n.0 n.1 are.0))
+    subst (λ k. IsKind (name_parsed names k) (with_number 0 k)) is (refl, (small_lies t f (codes "parent_tid") p.0 p.1, small_lies t f (codes "child_tid") c.0 c.1, is_name t f (codes "child_comm") n.0 n.1 are.0))
 
 migrate_fits : (names : List (List ℕ)) (t : Table) (f : Field) → FoundFits names (migrate t f)
 migrate_fits names t f k e bytes =
     let tid = found (small t f (codes "tid")) _ k e in
     let cpu = found (small t f (codes "dest_cpu")) _ k tid.2 in
-    subst (λ k. IsKind (name_told names k) (with_number 0 k)) (from_some _ k cpu.2) (refl, (small_lies t f (codes "tid") tid.0 tid.1, small_lies t f (codes "dest_cpu") cpu.0 cpu.1))
+    subst (λ k. IsKind (name_parsed names k) (with_number 0 k)) (from_some _ k cpu.2) (refl, (small_lies t f (codes "tid") tid.0 tid.1, small_lies t f (codes "dest_cpu") cpu.0 cpu.1))
 
 process_fits : (names : List (List ℕ)) (t : Table) (f : Field) → FoundFits names (process t f)
 process_fits names t f k e bytes =
@@ -105,7 +105,7 @@ process_fits names t f k e bytes =
     let s = found (small t f (codes "status")) _ k n.2 in
     let is : kind.Process tid.0 p.0 n.0 s.0 ≡ k = from_some _ k s.2 in
     let are = subst (λ k. AllByRecursion AreBytes (texts_in names k)) (sym is) bytes in
-    subst (λ k. IsKind (name_told names k) (with_number 0 k)) is (refl, (small_lies t f (codes "tid") tid.0 tid.1, small_lies t f (codes "ppid") p.0 p.1, is_name t f (codes "name") n.0 n.1 are.0, small_lies t f (codes "status") s.0 s.1))
+    subst (λ k. IsKind (name_parsed names k) (with_number 0 k)) is (refl, (small_lies t f (codes "tid") tid.0 tid.1, small_lies t f (codes "ppid") p.0 p.1, is_name t f (codes "name") n.0 n.1 are.0, small_lies t f (codes "status") s.0 s.1))
 
 segment_lies : (t : Table) (f : Field) (key : SegKey) → segment t f ≡ Some key → IsSegKey key
 segment_lies t f key e =
@@ -130,8 +130,8 @@ request_lies t f r e =
 
 -- a kind that is made of one thing that was found
 made_fits : {A : Type 0} (names : List (List ℕ)) (make : A → KernelEvent) (o : Option A)
-    → ((a : A) → o ≡ Some a → IsKind (name_told names (make a)) (with_number 0 (make a))) → FoundFits names (option_map make o)
-made_fits names make o fits k e bytes = let a = mapped make o k e in subst (λ k. IsKind (name_told names k) (with_number 0 k)) (sym a.2) (fits a.0 a.1)
+    → ((a : A) → o ≡ Some a → IsKind (name_parsed names (make a)) (with_number 0 (make a))) → FoundFits names (option_map make o)
+made_fits names make o fits k e bytes = let a = mapped make o k e in subst (λ k. IsKind (name_parsed names k) (with_number 0 k)) (sym a.2) (fits a.0 a.1)
 
 -- the name of a call is one
 abbrev IsNamed : List (List ℕ) → Tracepoint → ℕ → Type 0
@@ -272,14 +272,14 @@ at_name [] n p other e = absurd (other (sym e))
 at_name (x ∷ xs) zero p other e = e
 at_name (x ∷ xs) (suc n) p other e = at_name xs n p other e
 
-are_named : (meta : MetaParts) (name : ℕ) → IsNamed meta.told.event_names (unwrap_or (slice_get (layout_of meta) name) point.Other) name
+are_named : (meta : MetaParts) (name : ℕ) → IsNamed meta.declared.event_names (unwrap_or (slice_get (layout_of meta) name) point.Other) name
 are_named meta name = (
-  (λ e. let is = at_name meta.told.event_names name point.CallIn (λ c. absurd (cc)) e in call_in (name_at meta.told.event_names name) (sym (is_call (name_at meta.told.event_names name) (inl is)) ∙ is)),
-  (λ e. let is = at_name meta.told.event_names name point.CallOut (λ c. absurd (cc)) e in call_out (name_at meta.told.event_names name) (sym (is_call (name_at meta.told.event_names name) (inr is)) ∙ is)),
+  (λ e. let is = at_name meta.declared.event_names name point.CallIn (λ c. absurd (cc)) e in call_in (name_at meta.declared.event_names name) (sym (is_call (name_at meta.declared.event_names name) (inl is)) ∙ is)),
+  (λ e. let is = at_name meta.declared.event_names name point.CallOut (λ c. absurd (cc)) e in call_out (name_at meta.declared.event_names name) (sym (is_call (name_at meta.declared.event_names name) (inr is)) ∙ is)),
 )
 
 -- a decoded event's kind fits
-pub kind_fits : (meta : MetaParts) (raw : RawEvent) → Fits meta.told.event_names (kind_of meta raw).0
+pub kind_fits : (meta : MetaParts) (raw : RawEvent) → Fits meta.declared.event_names (kind_of meta raw).0
 kind_fits meta raw =
     let name = name_of meta raw.event in
-    or_other_fits meta.told.event_names name _ (event_fits meta.told.event_names (unwrap_or (slice_get (layout_of meta) name) point.Other) name meta.table raw.fields (are_named meta name))
+    or_other_fits meta.declared.event_names name _ (event_fits meta.declared.event_names (unwrap_or (slice_get (layout_of meta) name) point.Other) name meta.table raw.fields (are_named meta name))

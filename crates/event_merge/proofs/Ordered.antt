@@ -1,7 +1,7 @@
 -- The merge of one host is in order of its keys, which lie before the end of all times, and its lines are those of a list.
 use Rattle.std.proofs.Common.{◌≡◌, ℕ, ◌<◌, Bool, true, false, if◌then◌else◌, List, [], ◌∷◌, nat_lt, sym, ap, ◌∙◌, subst, arith}
 use Rattle.std.specs.List.{AllByRecursion}
-use Rattle.type_table.specs.ToldKept.{MetaParts}
+use Rattle.type_table.specs.TraceMetas.{MetaParts}
 use Rattle.trace_types.specs.declared.event.Event.{Event}
 use Rattle.trace_types.specs.Order.{RiseFrom}
 use Rattle.history_core.specs.Agreement.{IsMerge}
@@ -10,9 +10,9 @@ use Rattle.stable_sort.specs.Sorted.{put_in, sorted}
 use Rattle.stable_sort.proofs.Unique.{InOrder, NoneBelow, sorted_rises}
 use Rattle.decode_pool.specs.declared.files.FileBytes.{FileBytes}
 use Rattle.decode_pool.specs.Hosts.{all_events}
-use Rattle.event_list.specs.Lines.{AreBytes, IsEventList, IsKind, IsTold}
+use Rattle.event_list.specs.Lines.{AreBytes, IsEventList, IsKind, IsParsedLine}
 use Rattle.event_list.specs.Names.{lines_of, with_number}
-use Rattle.event_list.specs.Written.{SpellBytes, name_told, texts_in, tolds_of}
+use Rattle.event_list.specs.Written.{SpellBytes, name_parsed, texts_in, parsed_lines_of}
 use Rattle.event_list.proofs.Written.{is_list}
 use Rattle.event_merge.specs.Single.{merged_alone}
 use Rattle.event_merge.proofs.Decoded.{IsDecoded, all_decoded}
@@ -55,24 +55,24 @@ is_merge host meta files es e = subst (λ es. IsMerge (merged_alone es)) (sym e)
 
 -- ---- the lines of one host's merge
 
-told : (host : ℕ) (meta : MetaParts) (names : ℕ → List (List ℕ)) (es : List Event) → host < 64 → names host ≡ meta.told.event_names → AllByRecursion (IsDecoded host meta) es → SpellBytes names (merged_alone es) → AllByRecursion IsTold (tolds_of names (merged_alone es))
-told host meta names [] few same h bytes = tt
-told host meta names (e ∷ es) few same h bytes =
-    let at : names e.host ≡ meta.told.event_names = ap names h.0.host_is ∙ same in (
+declared : (host : ℕ) (meta : MetaParts) (names : ℕ → List (List ℕ)) (es : List Event) → host < 64 → names host ≡ meta.declared.event_names → AllByRecursion (IsDecoded host meta) es → SpellBytes names (merged_alone es) → AllByRecursion IsParsedLine (parsed_lines_of names (merged_alone es))
+declared host meta names [] few same h bytes = tt
+declared host meta names (e ∷ es) few same h bytes =
+    let at : names e.host ≡ meta.declared.event_names = ap names h.0.host_is ∙ same in (
       record {
         key = h.0.time.1;
         host = subst (λ n. n < 64) (sym h.0.host_is) few;
         cpu = h.0.cpu;
         time = h.0.time;
-        kind = subst (λ ns. AllByRecursion AreBytes (texts_in ns e.kind) → IsKind (name_told ns e.kind) (with_number 0 e.kind)) (sym at) h.0.kind bytes.0;
+        kind = subst (λ ns. AllByRecursion AreBytes (texts_in ns e.kind) → IsKind (name_parsed ns e.kind) (with_number 0 e.kind)) (sym at) h.0.kind bytes.0;
       },
-      told host meta names es few same h.1 bytes.1,
+      declared host meta names es few same h.1 bytes.1,
     )
 
 -- what is written of the merge is a list of events
-pub is_list_text : (host : ℕ) (meta : MetaParts) (files : List FileBytes) (names : ℕ → List (List ℕ)) (es : List Event) → es ≡ sorted (λ e. e.time) (all_events host meta files) → host < 64 → names host ≡ meta.told.event_names
-    → SpellBytes names (merged_alone es) → IsEventList (lines_of names (merged_alone es)) (tolds_of names (merged_alone es))
+pub is_list_text : (host : ℕ) (meta : MetaParts) (files : List FileBytes) (names : ℕ → List (List ℕ)) (es : List Event) → es ≡ sorted (λ e. e.time) (all_events host meta files) → host < 64 → names host ≡ meta.declared.event_names
+    → SpellBytes names (merged_alone es) → IsEventList (lines_of names (merged_alone es)) (parsed_lines_of names (merged_alone es))
 is_list_text host meta files names es e few same bytes =
     is_list names (merged_alone es)
-    (told host meta names es few same (subst (AllByRecursion (IsDecoded host meta)) (sym e) (all_in_order host meta files)) bytes)
+    (declared host meta names es few same (subst (AllByRecursion (IsDecoded host meta)) (sym e) (all_in_order host meta files)) bytes)
     (is_merge host meta files es e).rises

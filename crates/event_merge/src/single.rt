@@ -6,7 +6,7 @@ use event_list::{MergedTrace, NameList};
 use std::alloc::Global;
 use trace_types::{HostEvents, Merged, OutOfMemory};
 
-/// The merge of one host's events: they in their order, with their own times as keys. The only error is want of memory.
+/// The merge of one host's events: they in their order, with their own times as keys. The only error is lack of memory.
 pub fn merge_single(alloc: Global, host: HostEvents) -> Result<MergedTrace, OutOfMemory>
     ensures events { IfOk result (λ trace. trace.events.items ≡ merged_alone host.events.items) }
     ensures names { IfOk result (λ trace. trace.names.items ≡ host.names.items ∷ []) }

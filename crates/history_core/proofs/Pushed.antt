@@ -47,7 +47,7 @@ steps_both paths built (x ∷ s) u h g = (
       (subst (λ b. AreSteps (paths ++ paths_of (x ∷ s)) b u) (built_both built (x ∷ []) s) g)),
 )
 
--- the steps behind others
+-- the steps after others
 pub steps_rest : (paths : List AttributePath) (built : ℕ) (s u : List Step) → AreSteps paths built (s ++ u) → AreSteps (paths ++ paths_of s) (built_from built s) u
 steps_rest paths built [] u h = subst (λ ps. AreSteps ps built u) (sym (append-nil paths)) h
 steps_rest paths built (x ∷ s) u h =

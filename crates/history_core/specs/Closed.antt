@@ -5,7 +5,7 @@ use Rattle.trace_types.specs.declared.value.Value.TheVariants.{Null}
 use Rattle.history_core.specs.declared.closed.Since.{Since}
 use Rattle.history_core.specs.Changes.{IsTime, last_value}
 
--- there is a change right behind the end, the start is the greatest time of a change before it, and the value is that of the last change at the start
+-- there is a change right after the end, the start is the greatest time of a change before it, and the value is that of the last change at the start
 pub record IsClosed (changes : List Since) (start end : ℕ) (value : Value) : Type 0 where
   pub begins : IsTime changes start
   pub ends : IsTime changes (end + 1)

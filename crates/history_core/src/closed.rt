@@ -34,7 +34,7 @@ pub struct Since {
 }
 
 /// Gives a number another value from t on, and closes the interval of the value before, unless it
-/// is empty or has no value. At want of memory nothing has changed.
+/// is empty or has no value. When memory runs out, nothing has changed.
 pub fn change(
     closed: &mut Vec<Interval>,
     opened: &mut [Option<Since>],

@@ -42,7 +42,7 @@ impl Model for History {
 }
 
 impl History {
-    /// A history of no step. The only error is want of memory.
+    /// A history of no step. The only error is lack of memory.
     pub fn new(alloc: Global) -> Result<History, OutOfMemory>
         ensures { IfOk result (λ history. Stands [] history) }
     {
@@ -56,7 +56,7 @@ impl History {
     }
 
     /// Takes a step that can follow those that were taken, which are fewer than 2^64 - 1. The only
-    /// error is want of memory, after which nothing has changed.
+    /// error is lack of memory, after which nothing has changed.
     pub fn apply(&mut self, step: Step) -> Result<(), OutOfMemory>
         requires follows { CanFollow self.old.paths self.old.built step }
         requires few { self.old.count < 2 ^ 64 - 1 }
@@ -104,7 +104,7 @@ impl History {
     }
 }
 
-// Takes a step, or leaves all as it is at want of memory.
+// Takes a step, or leaves all as it is when memory runs out.
 fn take(
     attributes: &mut Attributes,
     closed: &mut Vec<Interval>,

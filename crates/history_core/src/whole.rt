@@ -9,7 +9,7 @@ use kernel_provider::Provider;
 use std::alloc::Global;
 use trace_types::{Merged, OutOfMemory};
 
-/// The history of all steps of a merge. The only error is want of memory.
+/// The history of all steps of a merge. The only error is lack of memory.
 pub fn history_of(alloc: Global, events: &[Merged]) -> Result<History, OutOfMemory>
     requires { IsMerge events.now }
     ensures { IfOk result (λ history. Stands (steps_of events.now) history) }

@@ -35,7 +35,7 @@ stream { id = 1; packet.context := struct { u16 content_size; u16 packet_size; u
 event { name = \"a\"; stream_id = 0; id = 0; fields := struct { u8 n; u8 x[n]; }; };
 event { name = \"a\"; stream_id = 1; id = 0; fields := struct { u8 n; u8 x[n]; }; };";
 
-// The numbers are 255, 256 and 1, which in 8 bits is the one behind 256; the counts 254, 258 and 3, in 8 bits 1 more than 258.
+// The numbers are 255, 256 and 1, which in 8 bits is the one after 256; the counts 254, 258 and 3, in 8 bits 1 more than 258.
 const MIXED: &[u8] = &[
     0xC1, 0x1F, 0xFC, 0xC1, 0, 0x78, 0, 0x78, 0, 255, 254, 0, 5, 1, 0xAA, //
     0xC1, 0x1F, 0xFC, 0xC1, 1, 0x88, 0, 0x88, 0, 0, 1, 2, 1, 0, 7, 1, 0xAA, //

@@ -3,8 +3,8 @@ use Rattle.std.proofs.Common.{◌≡◌, ◌⊎◌, inl, inr, ℕ, ◌+◌, ◌�
 use Rattle.std.specs.List.{AllByRecursion}
 use Rattle.std.specs.Prelude.{IfSome, IsSome}
 use Rattle.ht_outside.specs.Files.{Files, bytes_of}
-use Rattle.event_list.specs.declared.told.Told.{Told}
-use Rattle.known_types.specs.Traces.{Trace}
+use Rattle.event_list.specs.declared.parsed_line.ParsedLine.{ParsedLine}
+use Rattle.type_scope.specs.Traces.{Trace}
 use Rattle.trace_metadata.specs.Files.{IsTrace}
 use Rattle.trace_metadata.proofs.OneTrace.{not_refused}
 use Rattle.history_core.specs.declared.question.Question.{Question}
@@ -24,7 +24,7 @@ use Rattle.hosttrace.specs.declared.status.Status.TheVariants.{Done, Usage, Refu
 use Rattle.hosttrace.specs.declared.status.Refusal.{Refusal}
 use Rattle.hosttrace.specs.declared.status.Refusal.TheVariants.{NoMetadata, BadMetadata, BadList, TooLarge, TooManyEvents}
 use Rattle.hosttrace.specs.Inputs.{IsList, ListRefuses, AreAsked, QuestionsRefuse}
-use Rattle.hosttrace.specs.Folders.{FILES_LIMIT, HOST_LIMIT, METADATA_LIMIT, AreRead, FoldersRefuse, HasManyNames, IsRead, NamesRefuse, SizeRefuses, metadata_of}
+use Rattle.hosttrace.specs.Folders.{FILES_LIMIT, MAX_HOSTS, METADATA_LIMIT, AreRead, FoldersRefuse, HasManyNames, IsRead, NamesRefuse, SizeRefuses, metadata_of}
 use Rattle.hosttrace.specs.Hosts.{AreTraces, HostsRefuse, MetadataRefuses}
 use Rattle.hosttrace.specs.Means.{AreChecked, CheckRefuses, InputRefuses, IsCrowd, IsGood, IsGoodInput, Refuses}
 use Rattle.hosttrace.specs.Outcome.{Seen, Means, PlainMeans, IsValid, IsFaultless, IsOutcome, IsPlainOutcome}
@@ -34,9 +34,9 @@ told : (seen : Option Files) (files : Files) (P : Files → Type 0) → seen ≡
 told seen files P e h = subst (λ o. IfSome o P) e h
 
 -- a good file isn't refused
-good_list : (bytes : List ℕ) (refusal : Refusal) → ListRefuses bytes refusal → (tolds : List Told) → IsList bytes tolds → ⊥
+good_list : (bytes : List ℕ) (refusal : Refusal) → ListRefuses bytes refusal → (parsed_lines : List ParsedLine) → IsList bytes parsed_lines → ⊥
 good_list bytes (BadList Events line) h events g = h.1 events g.is_list
-good_list bytes TooManyEvents h tolds g = let few = g.few in absurd (omega (arith, few, h.2 tolds g.is_list))
+good_list bytes TooManyEvents h parsed_lines g = let few = g.few in absurd (omega (arith, few, h.2 parsed_lines g.is_list))
 good_list bytes (BadList Questions line) h events g = h
 good_list bytes (NoMetadata host) h events g = h
 good_list bytes (BadMetadata host cause) h events g = h
@@ -112,7 +112,7 @@ good_hosts host (bytes ∷ files) refusal [] h are = are
 good_hosts host (bytes ∷ files) refusal (t ∷ ts) (inl h) are = good_host host bytes refusal t h are.0
 good_hosts host (bytes ∷ files) refusal (t ∷ ts) (inr h) are = good_hosts (host + 1) files refusal ts h.1 are.1
 
-good_crowd : (folders : List (List ℕ)) (refusal : Refusal) → IsCrowd folders refusal → length folders ≤ HOST_LIMIT → ⊥
+good_crowd : (folders : List (List ℕ)) (refusal : Refusal) → IsCrowd folders refusal → length folders ≤ MAX_HOSTS → ⊥
 good_crowd folders (TooLarge limit.Hosts) h few = absurd (omega (arith, h, few))
 good_crowd folders (TooLarge limit.Names) h few = h
 good_crowd folders (TooLarge limit.Metadata) h few = h

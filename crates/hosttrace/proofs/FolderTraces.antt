@@ -4,8 +4,8 @@ use Rattle.std.specs.Prelude.{IfSome}
 use Rattle.ht_outside.specs.Files.{Files, ListsNames, bytes_of}
 use Rattle.decode_pool.specs.declared.hosts.HostFiles.{HostFiles}
 use Rattle.event_list.specs.declared.trace.MergedTrace.{MergedTrace}
-use Rattle.known_types.specs.Traces.{trace}
-use Rattle.type_table.specs.ToldKept.{IsSoundMeta}
+use Rattle.type_scope.specs.Traces.{trace}
+use Rattle.type_table.specs.TraceMetas.{IsSoundMeta}
 use Rattle.trace_metadata.specs.Files.{IsTrace}
 use Rattle.hosttrace.specs.Folders.{FILES_LIMIT, METADATA_LIMIT, HasFewNames, HasMetadata, IsRead, metadata_of}
 use Rattle.hosttrace.specs.Hosts.{MetadataRefuses, TextFails}
@@ -33,7 +33,7 @@ merge_fails o dir host a b Usage h f = f
 merge_fails o dir host a b ReadFault h f = absurd f
 merge_fails o dir host a b WriteFault h f = f
 
--- behind a good input the questions are refused
+-- after a good input the questions are refused
 pub ask_fails : (o q : Option Files) (source : Input) (questions : List ℕ) (t : MergedTrace) (a b c : ℕ) (status : Status) → q ≡ o → a ≤ b → IfSome o (λ files. IsInput source files t) → FailsBy (λ files r. QuestionsRefuse (bytes_of files [] questions) r) q b c status → FailsBy (Refuses (Ask source questions)) o a c status
 ask_fails o q source questions t a b c status e le h f = fails_by (Refuses (Ask source questions)) (λ files r. QuestionsRefuse (bytes_of files [] questions) r) o q a b c status e le (lift o h) f
   where

@@ -1,8 +1,8 @@
--- What is left of folders and of hosts, behind those that were read.
+-- What is left of folders and of hosts, after those that were read.
 use Rattle.std.proofs.Common.{◌≡◌, inl, inr, ◌∙◌, ℕ, ◌+◌, ◌≤◌, List, [], ◌∷◌, ◌++◌, length, map, drop, Option, Some, None, refl, sym, ap, subst, append_assoc, append-nil}
 use Rattle.std.specs.Prelude.{IfSome}
 use Rattle.ht_outside.specs.Files.{Files}
-use Rattle.known_types.specs.Traces.{Trace}
+use Rattle.type_scope.specs.Traces.{Trace}
 use Rattle.trace_metadata.specs.Files.{IsTrace}
 use Rattle.hosttrace.specs.Folders.{AreRead, FolderRefuses, FoldersRefuse, IsRead, metadata_of}
 use Rattle.hosttrace.specs.Hosts.{AreTraces, HostsRefuse, MetadataRefuses}

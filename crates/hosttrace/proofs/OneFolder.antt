@@ -3,18 +3,18 @@ use Rattle.std.proofs.Common.{◌≡◌, ◌∙◌, ◌≤◌, ◌<◌, ◌+◌,
 use Rattle.std.specs.Cmp.Lexicographic.{nat_list_cmp_total, slice_cmp}
 use Rattle.std.specs.Ordering.{ordering_reverse}
 use Rattle.ht_outside.specs.Files.{Files}
-use Rattle.trace_types.specs.Limits.{MAX_EVENTS}
+use Rattle.trace_types.specs.declared.limits.TheConstants.{MAX_EVENTS}
 use Rattle.trace_types.specs.declared.event.Event.{Event}
 use Rattle.trace_types.specs.declared.host.RefusedPacket.{RefusedPacket}
 use Rattle.stable_sort.specs.Sorted.{sorted}
 use Rattle.type_table.specs.SameTrace.{AreBoth, IsSameEvent, IsSameStream, IsSameTrace}
 use Rattle.type_table.specs.Table.{Table}
-use Rattle.type_table.specs.ToldKept.{MetaParts}
-use Rattle.type_table.specs.declared.told.EventId.{EventId}
-use Rattle.type_table.specs.declared.told.EventParts.{EventParts}
-use Rattle.type_table.specs.declared.told.StreamScopes.{StreamScopes}
-use Rattle.known_types.specs.Traces.{trace}
-use Rattle.known_types.specs.View.{event_at, stream_at}
+use Rattle.type_table.specs.TraceMetas.{MetaParts}
+use Rattle.type_table.specs.declared.declared.EventId.{EventId}
+use Rattle.type_table.specs.declared.declared.EventParts.{EventParts}
+use Rattle.type_table.specs.declared.declared.StreamScopes.{StreamScopes}
+use Rattle.type_scope.specs.Traces.{trace}
+use Rattle.type_scope.specs.View.{event_at, stream_at}
 use Rattle.trace_metadata.proofs.OneTrace.{not_refused, one_trace}
 use Rattle.decode_pool.proofs.AlikeHosts.{tell_same}
 use Rattle.decode_pool.specs.Hosts.{all_events, all_incomplete, all_packets, all_refused}
@@ -78,12 +78,12 @@ pub same_trace : (m n : MetaParts) → trace m ≡ trace n → IsSameTrace m n
 unfolding trace
 same_trace m n e = record {
   header = ap (λ x. x.packet_header) e;
-  uuid = ap (λ x. x.told.uuid) e;
-  streams = streams_both m.table n.table m.told.streams n.told.streams (ap (λ x. x.told.streams) e);
-  events = events_both m.table n.table m.told.events n.told.events (ap (λ x. x.told.events) e);
-  event_names = ap (λ x. x.told.event_names) e;
-  clocks = ap (λ x. x.told.clocks) e;
-  hostname = ap (λ x. x.told.hostname) e;
+  uuid = ap (λ x. x.declared.uuid) e;
+  streams = streams_both m.table n.table m.declared.streams n.declared.streams (ap (λ x. x.declared.streams) e);
+  events = events_both m.table n.table m.declared.events n.declared.events (ap (λ x. x.declared.events) e);
+  event_names = ap (λ x. x.declared.event_names) e;
+  clocks = ap (λ x. x.declared.clocks) e;
+  hostname = ap (λ x. x.declared.hostname) e;
 }
 
 -- ---- two hosts of one folder
@@ -112,17 +112,17 @@ module _ (files : Files) (dir : List ℕ) (a b : HostFiles) (ha : IsHostOf files
   a_trace events names refused packets incomplete = record { events = merged_alone (sorted (λ e. e.time) events); names = names; refused = refused; packets = packets; incomplete = incomplete }
 
   told_as : ℕ → FolderTrace
-  told_as host = a_trace (all_events host b.meta b.files.items) b.meta.told.event_names (all_refused host b.meta b.files.items) (all_packets host b.meta b.files.items) (all_incomplete host b.meta b.files.items)
+  told_as host = a_trace (all_events host b.meta b.files.items) b.meta.declared.event_names (all_refused host b.meta b.files.items) (all_packets host b.meta b.files.items) (all_incomplete host b.meta b.files.items)
 
   pub same_told : trace_of a ≡ trace_of b
   unfolding a_trace told_as
   same_told =
       let told = tells in
-      ap (λ es. a_trace es a.meta.told.event_names (all_refused a.host a.meta a.files.items) (all_packets a.host a.meta a.files.items) (all_incomplete a.host a.meta a.files.items)) told.events
+      ap (λ es. a_trace es a.meta.declared.event_names (all_refused a.host a.meta a.files.items) (all_packets a.host a.meta a.files.items) (all_incomplete a.host a.meta a.files.items)) told.events
       ∙ (ap (λ ns. a_trace (all_events a.host b.meta b.files.items) ns (all_refused a.host a.meta a.files.items) (all_packets a.host a.meta a.files.items) (all_incomplete a.host a.meta a.files.items)) same_meta.event_names
-      ∙ (ap (λ rs. a_trace (all_events a.host b.meta b.files.items) b.meta.told.event_names rs (all_packets a.host a.meta a.files.items) (all_incomplete a.host a.meta a.files.items)) told.refused
-      ∙ (ap (λ n. a_trace (all_events a.host b.meta b.files.items) b.meta.told.event_names (all_refused a.host b.meta b.files.items) n (all_incomplete a.host a.meta a.files.items)) told.accepted
-      ∙ (ap (λ n. a_trace (all_events a.host b.meta b.files.items) b.meta.told.event_names (all_refused a.host b.meta b.files.items) (all_packets a.host b.meta b.files.items) n) told.incomplete
+      ∙ (ap (λ rs. a_trace (all_events a.host b.meta b.files.items) b.meta.declared.event_names rs (all_packets a.host a.meta a.files.items) (all_incomplete a.host a.meta a.files.items)) told.refused
+      ∙ (ap (λ n. a_trace (all_events a.host b.meta b.files.items) b.meta.declared.event_names (all_refused a.host b.meta b.files.items) n (all_incomplete a.host a.meta a.files.items)) told.accepted
+      ∙ (ap (λ n. a_trace (all_events a.host b.meta b.files.items) b.meta.declared.event_names (all_refused a.host b.meta b.files.items) (all_packets a.host b.meta b.files.items) n) told.incomplete
       ∙ ap told_as same_number))))
 
   pub same_packets : packet_count (a ∷ []) ≡ packet_count (b ∷ [])

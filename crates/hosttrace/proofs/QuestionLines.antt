@@ -70,7 +70,7 @@ pub no_items : (questions : List Question) → length questions ≡ 0 → questi
 no_items [] e = refl
 no_items (q ∷ qs) e = absurd (omega (arith, e))
 
--- every reading of the whole goes on behind the lines read so far
+-- every reading of the whole goes on after the lines read so far
 behind : (questions others : List Question) (rest : List ℕ) → AllByRecursion IsQuestion questions → AllByRecursion IsQuestion others → flat_map question_text others ≡ flat_map question_text questions ++ rest
     → (more : List Question) × AllByRecursion IsQuestion more × (rest ≡ flat_map question_text more) × (length others ≡ length questions + length more)
 behind [] others rest h g e = (others, g, sym e, omega arith)

@@ -4,7 +4,7 @@ use Rattle.std.specs.Prelude.{IfSome, flat_map}
 use Rattle.ht_outside.specs.Files.{Files, bytes_of}
 use Rattle.event_list.specs.Lines.{IsEventList}
 use Rattle.event_list.specs.Names.{lines_of, names_at}
-use Rattle.event_list.specs.Written.{SpellBytes, tolds_of}
+use Rattle.event_list.specs.Written.{SpellBytes, parsed_lines_of}
 use Rattle.event_list.specs.declared.trace.MergedTrace.{MergedTrace}
 use Rattle.history_core.specs.declared.question.Question.{Question}
 use Rattle.kernel_provider.specs.Replay.{state_at}
@@ -21,7 +21,7 @@ events_output None dir merge text h is bytes = tt
 events_output (Some files) dir merge text (t, has, of) is bytes =
     let spelled = subst₂ (λ names es. SpellBytes (names_at names) es) of.names of.events bytes in
     let same : text ≡ lines_of (names_at (t.names ∷ [])) t.events = is ∙ ap₂ (λ names es. lines_of (names_at names) es) of.names of.events in
-    record { trace = t; is_trace = has; is_text = same; is_list = subst (λ x. IsEventList x (tolds_of (names_at (t.names ∷ [])) t.events)) (sym same) (reads_again files dir t has spelled) }
+    record { trace = t; is_trace = has; is_text = same; is_list = subst (λ x. IsEventList x (parsed_lines_of (names_at (t.names ∷ [])) t.events)) (sym same) (reads_again files dir t has spelled) }
 
 pub state_output : (o : Option Files) (source : Input) (at : ℕ) (trace : MergedTrace) (text : List ℕ) → IfSome o (λ files. IsInput source files trace) → IsStateText (names_at trace.names.items) (state_at trace.events.items at) text → IfSome o (λ files. IsStateOutput files source at text)
 state_output None source at trace text h is = tt

@@ -1,13 +1,12 @@
 -- The folders of traces, each of one host, of which only the files of metadata are read, and what refuses them (this project's own limits).
 use Rattle.std.specs.Prelude.{◌≡◌, ◌⊎◌, ℕ, ◌+◌, ◌<◌, ◌≤◌, ◌==◌, Bool, true, not, List, [], ◌∷◌, length, count_by, codes, IsSome, None}
+pub use Rattle.trace_types.specs.declared.limits.TheConstants.{MAX_HOSTS}
 use Rattle.ht_outside.specs.Files.{Files, ListsNames, bytes_of}
 use Rattle.hosttrace.specs.declared.status.Limit.TheVariants as limit
 use Rattle.hosttrace.specs.declared.status.Refusal.{Refusal}
 use Rattle.hosttrace.specs.declared.status.Refusal.TheVariants.{NoMetadata, TooLarge}
 
--- how many folders may be named, how many names may be in one, how many bytes the metadata of one may have, and how many all of them together
-abbrev pub HOST_LIMIT : ℕ
-HOST_LIMIT = 64
+-- how many names may be in a folder, how many bytes the metadata of one may have, and how many all of them together
 
 abbrev pub NAME_LIMIT : ℕ
 NAME_LIMIT = 4096
@@ -57,12 +56,12 @@ SizeRefuses before size (TooLarge limit.Metadata) = METADATA_LIMIT < size
 SizeRefuses before size (TooLarge limit.Files) = (size ≤ METADATA_LIMIT) × (FILES_LIMIT < before + size)
 SizeRefuses before size _ = ⊥
 
--- why the folder of this host is refused: its names, or behind good names the size of its metadata
+-- why the folder of this host is refused: its names, or after good names the size of its metadata
 abbrev pub FolderRefuses : Files → ℕ → ℕ → List ℕ → Refusal → Type 0
 FolderRefuses files host before dir refusal =
     NamesRefuse files host dir refusal ⊎ ((HasFewNames files dir × HasMetadata files dir) × SizeRefuses before (length (metadata_of files dir)) refusal)
 
--- folders are read one behind the other
+-- folders are read one after the other
 abbrev pub AreRead : Files → ℕ → List (List ℕ) → Type 0
 AreRead files before [] = Unit {0}
 AreRead files before (dir ∷ dirs) = IsRead files before dir × AreRead files (before + length (metadata_of files dir)) dirs

@@ -1,7 +1,7 @@
 -- What the metadata of hosts declares, and the text that tells it (this project's own).
 use Rattle.std.specs.Prelude.{◌≡◌, ◌⊎◌, ℕ, ◌+◌, List, [], ◌∷◌, ◌++◌, length, codes}
 use Rattle.std.specs.Fmt.{decimal}
-use Rattle.known_types.specs.Traces.{Trace}
+use Rattle.type_scope.specs.Traces.{Trace}
 use Rattle.trace_metadata.specs.Files.{IsTrace, IsRefused}
 use Rattle.hosttrace.specs.declared.status.Refusal.{Refusal}
 use Rattle.hosttrace.specs.declared.status.Refusal.TheVariants.{BadMetadata}
@@ -27,7 +27,7 @@ HostsRefuse host (bytes ∷ files) refusal = MetadataRefuses host bytes refusal 
 -- how many streams, events and clocks a host's trace declares
 abbrev pub host_line : ℕ → Trace → List ℕ
 host_line host t =
-    codes "host " ++ decimal host ++ codes " streams " ++ decimal (length t.told.streams) ++ codes " events " ++ decimal (length t.told.events) ++ codes " clocks " ++ decimal (length t.told.clocks) ++ codes "\n"
+    codes "host " ++ decimal host ++ codes " streams " ++ decimal (length t.declared.streams) ++ codes " events " ++ decimal (length t.declared.events) ++ codes " clocks " ++ decimal (length t.declared.clocks) ++ codes "\n"
 
 -- a line for each host, from this one on
 abbrev pub host_lines : ℕ → List Trace → List ℕ

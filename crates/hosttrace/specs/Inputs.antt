@@ -2,10 +2,10 @@
 use Rattle.std.specs.Prelude.{ℕ, ◌<◌, ◌≤◌, List, length, count_by, Option, IfSome}
 use Rattle.ht_outside.specs.Faults.{HasRisen}
 use Rattle.ht_outside.specs.Files.{Files}
-use Rattle.trace_types.specs.Limits.{MAX_EVENTS}
+use Rattle.trace_types.specs.declared.limits.TheConstants.{MAX_EVENTS}
 use Rattle.event_list.specs.Lines.{IsCrowded, IsEventList, IsFirstBad}
 use Rattle.event_list.specs.Names.{IsTrace}
-use Rattle.event_list.specs.declared.told.Told.{Told}
+use Rattle.event_list.specs.declared.parsed_line.ParsedLine.{ParsedLine}
 use Rattle.event_list.specs.declared.trace.MergedTrace.{MergedTrace}
 use Rattle.history_core.specs.declared.question.Question.{Question}
 use Rattle.hosttrace.specs.Questions.{QUESTION_LIMIT, is_feed, AreQuestions, IsFirstBadQuestion}
@@ -21,7 +21,7 @@ use Rattle.hosttrace.specs.declared.status.Status.TheVariants.{Done, Usage, Refu
 abbrev pub LIST_LIMIT : ℕ
 LIST_LIMIT = 268435456
 
--- why a command has no text: a refusal of its files, where the store tells them, a fault of the store, or want of memory
+-- why a command has no text: a refusal of its files, where the store tells them, a fault of the store, or lack of memory
 abbrev pub FailsBy : (Files → Refusal → Type 0) → Option Files → ℕ → ℕ → Status → Type 0
 FailsBy Refuses files faults faults_after Done = ⊥
 FailsBy Refuses files faults faults_after Usage = ⊥
@@ -36,21 +36,21 @@ FileRefuses bytes (TooLarge File) = LIST_LIMIT < length bytes
 FileRefuses bytes _ = ⊥
 
 -- the bytes are the event list of these lines, within the limits
-pub record IsList (bytes : List ℕ) (tolds : List Told) : Type 0 where
+pub record IsList (bytes : List ℕ) (parsed_lines : List ParsedLine) : Type 0 where
   pub small : length bytes ≤ LIST_LIMIT
-  pub few : length tolds ≤ MAX_EVENTS
-  pub is_list : IsEventList bytes tolds
+  pub few : length parsed_lines ≤ MAX_EVENTS
+  pub is_list : IsEventList bytes parsed_lines
 
 -- the bytes are an event list, and this is what its lines tell
 pub record IsListTrace (bytes : List ℕ) (trace : MergedTrace) : Type 0 where
-  pub tolds : List Told
-  pub is_list : IsList bytes tolds
-  pub is_trace : IsTrace tolds trace
+  pub parsed_lines : List ParsedLine
+  pub is_list : IsList bytes parsed_lines
+  pub is_trace : IsTrace parsed_lines trace
 
 -- why bytes are refused as an event list
 abbrev pub ListRefuses : List ℕ → Refusal → Type 0
-ListRefuses bytes (BadList Events line) = (length bytes ≤ LIST_LIMIT) × ((tolds : List Told) → ¬ (IsEventList bytes tolds)) × IsFirstBad bytes line
-ListRefuses bytes TooManyEvents = (length bytes ≤ LIST_LIMIT) × IsCrowded bytes × ((tolds : List Told) → IsEventList bytes tolds → MAX_EVENTS < length tolds)
+ListRefuses bytes (BadList Events line) = (length bytes ≤ LIST_LIMIT) × ((parsed_lines : List ParsedLine) → ¬ (IsEventList bytes parsed_lines)) × IsFirstBad bytes line
+ListRefuses bytes TooManyEvents = (length bytes ≤ LIST_LIMIT) × IsCrowded bytes × ((parsed_lines : List ParsedLine) → IsEventList bytes parsed_lines → MAX_EVENTS < length parsed_lines)
 ListRefuses bytes (TooLarge File) = LIST_LIMIT < length bytes
 ListRefuses bytes _ = ⊥
 

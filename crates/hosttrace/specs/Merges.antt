@@ -1,6 +1,6 @@
 -- The merge of one host's trace (one host's merge is its own list; this project's own).
 use Rattle.std.specs.Prelude.{◌≡◌, ◌⊎◌, ℕ, ◌<◌, ◌≤◌, List, [], ◌∷◌}
-use Rattle.known_types.specs.Traces.{Trace}
+use Rattle.type_scope.specs.Traces.{Trace}
 use Rattle.trace_metadata.specs.Files.{IsTrace}
 use Rattle.trace_types.specs.declared.event.Merged.{Merged}
 use Rattle.trace_types.specs.declared.host.RefusedPacket.{RefusedPacket}
@@ -8,7 +8,7 @@ use Rattle.ht_outside.specs.Files.{Files}
 use Rattle.stable_sort.specs.Sorted.{sorted}
 use Rattle.decode_pool.specs.declared.hosts.HostFiles.{HostFiles}
 use Rattle.decode_pool.specs.Hosts.{all_events, all_incomplete, all_packets, all_refused}
-use Rattle.trace_types.specs.Limits.{MAX_EVENTS}
+use Rattle.trace_types.specs.declared.limits.TheConstants.{MAX_EVENTS}
 use Rattle.decode_pool.specs.Limits.{MAX_PACKETS, event_count, packet_count}
 use Rattle.event_list.specs.declared.trace.MergedTrace.{MergedTrace}
 use Rattle.event_merge.specs.Single.{merged_alone}
@@ -30,7 +30,7 @@ pub record FolderTrace : Type 0 where
 abbrev pub trace_of : HostFiles → FolderTrace
 trace_of host = record {
   events = merged_alone (sorted (λ e. e.time) (all_events host.host host.meta host.files.items));
-  names = host.meta.told.event_names;
+  names = host.meta.declared.event_names;
   refused = all_refused host.host host.meta host.files.items;
   packets = all_packets host.host host.meta host.files.items;
   incomplete = all_incomplete host.host host.meta host.files.items;

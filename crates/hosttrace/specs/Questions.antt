@@ -32,7 +32,7 @@ pub record AreQuestions (bytes : List ℕ) (questions : List Question) : Type 0 
   pub each : AllByRecursion IsQuestion questions
   pub some : questions ≢ []
 
--- the first bad line, from 1: behind questions something follows that begins with none, or there is none at all
+-- the first bad line, from 1: after questions something follows that begins with none, or there is none at all
 pub record IsFirstBadQuestion (bytes : List ℕ) (line : ℕ) : Type 0 where
   pub questions : List Question
   pub rest : List ℕ

@@ -3,8 +3,8 @@ use Rattle.std.specs.Prelude.{◌≡◌, ◌⊎◌, ℕ, ◌+◌, ◌<◌, ◌�
 use Rattle.std.specs.List.{AllPairs}
 use Rattle.std.specs.Cmp.Lexicographic.{pointwise, slice_cmp}
 use Rattle.std.specs.Ordering.{is_lt, nat_cmp}
-use Rattle.known_types.specs.Traces.{trace}
-use Rattle.type_table.specs.ToldKept.{IsSoundMeta}
+use Rattle.type_scope.specs.Traces.{trace}
+use Rattle.type_table.specs.TraceMetas.{IsSoundMeta}
 use Rattle.trace_metadata.specs.Files.{IsTrace}
 use Rattle.ht_outside.specs.Files.{Files, ListsNames, bytes_of}
 use Rattle.decode_pool.specs.declared.files.FileBytes.{FileBytes}
@@ -53,7 +53,7 @@ StreamRefuses before size _ = ⊥
 abbrev pub size_of : Files → List ℕ → List ℕ → ℕ
 size_of files dir name = length (bytes_of files dir name)
 
--- files are read one behind the other
+-- files are read one after the other
 abbrev pub AreStreamsRead : Files → List ℕ → ℕ → List (List ℕ) → Type 0
 AreStreamsRead files dir before [] = Unit {0}
 AreStreamsRead files dir before (name ∷ names) = StreamFits before (size_of files dir name) × AreStreamsRead files dir (before + size_of files dir name) names
@@ -77,10 +77,10 @@ pub record IsHostOf (files : Files) (dir : List ℕ) (host : HostFiles) : Type 0
   pub declares : IsTrace (metadata_of files dir) (trace host.meta)
   pub sound : IsSoundMeta host.meta
 
--- why the stream files of these names are refused, or behind good ones the metadata
+-- why the stream files of these names are refused, or after good ones the metadata
 abbrev pub ContentRefuses : Files → List ℕ → List (List ℕ) → Refusal → Type 0
 ContentRefuses files dir names refusal = StreamsRefuse files dir (metadata_size files dir) names refusal ⊎ (AreStreamsRead files dir (metadata_size files dir) names × MetadataRefuses 0 (metadata_of files dir) refusal)
 
--- why a folder has no host: its names or the size of its metadata, and behind these its files
+-- why a folder has no host: its names or the size of its metadata, and after these its files
 abbrev pub HostRefuses : Files → List ℕ → Refusal → Type 0
 HostRefuses files dir refusal = FolderRefuses files 0 0 dir refusal ⊎ (IsRead files 0 dir × ((names : List (List ℕ)) × AreStreamNames files dir names × ContentRefuses files dir names refusal))

@@ -1,7 +1,7 @@
 //! Reading the metadata of the folders that a command names.
 ghost use Rattle.std.specs.Prelude.{◌≡◌, ◌+◌, ◌≤◌, ◌<◌, ◌^◌, ◌↔◌, length, map, count_by, codes, Contains, IsTrue, IfOk, IfErr, IfSome, OnOk};
 ghost use Rattle.ht_outside.specs.Files.{ListsNames};
-ghost use Rattle.hosttrace.specs.Folders.{FILES_LIMIT, HOST_LIMIT, METADATA_LIMIT, AreRead, FolderRefuses, FoldersRefuse, HasFewNames, HasMetadata, IsRead, NamesRefuse, SizeRefuses, is_shown, metadata_of};
+ghost use Rattle.hosttrace.specs.Folders.{FILES_LIMIT, MAX_HOSTS, METADATA_LIMIT, AreRead, FolderRefuses, FoldersRefuse, HasFewNames, HasMetadata, IsRead, NamesRefuse, SizeRefuses, is_shown, metadata_of};
 ghost use Rattle.hosttrace.specs.Inputs.{FailsBy};
 ghost use Rattle.hosttrace.specs.declared.status.Refusal.TheVariants.{TooLarge};
 ghost use Rattle.hosttrace.specs.declared.status.Status.TheVariants.{Refused};
@@ -11,10 +11,7 @@ use crate::status::{Limit, Refusal, Status};
 use ht_outside::{Store, StoreError};
 use sqlite_items::Items;
 use std::alloc::Global;
-use trace_types::Text;
-
-/// How many folders may be named.
-const HOST_LIMIT: usize = 64;
+use trace_types::{MAX_HOSTS, Text};
 
 /// How many names that don't begin with a dot may be in a folder.
 const NAME_LIMIT: usize = 4_096;
@@ -27,9 +24,9 @@ pub const FILES_LIMIT: usize = 536_870_912;
 
 /// Whether more folders are named than may be.
 pub fn is_crowd(folders: &[Text]) -> bool
-    ensures { IsTrue result ↔ (HOST_LIMIT < length folders.now) }
+    ensures { IsTrue result ↔ (MAX_HOSTS < length folders.now) }
 {
-    folders.len() > HOST_LIMIT
+    folders.len() > MAX_HOSTS
 }
 
 /// The bytes of the metadata of each folder.
@@ -38,7 +35,7 @@ pub fn read_folders<S: Store>(
     folders: &[Text],
     store: &mut S,
 ) -> Result<Vec<Items<u8>>, Status>
-    requires { length folders.now ≤ HOST_LIMIT }
+    requires { length folders.now ≤ MAX_HOSTS }
     ensures read { IfOk result (λ texts. IfSome (S.holds store.old) (λ files. AreRead files 0 folders.now)) }
     ensures bytes { IfOk result (λ texts. IfSome (S.holds store.old) (λ files. texts.items ≡ map (metadata_of files) folders.now)) }
     ensures each { IfOk result (λ texts. length texts.items ≡ length folders.now) }

@@ -1,9 +1,9 @@
 //! What the metadata of hosts declares.
 ghost use Rattle.std.specs.Prelude.{◌≡◌, ◌++◌, ◌≤◌, ◌^◌, ◌<◌, length, map, IfOk, IfErr, OnOk};
-ghost use Rattle.known_types.specs.Traces.{trace};
-ghost use Rattle.type_table.specs.ToldKept.{IsSoundMeta};
+ghost use Rattle.type_scope.specs.Traces.{trace};
+ghost use Rattle.type_table.specs.TraceMetas.{IsSoundMeta};
 ghost use Rattle.trace_metadata.specs.Files.{IsTrace};
-ghost use Rattle.hosttrace.specs.Folders.{HOST_LIMIT};
+ghost use Rattle.hosttrace.specs.Folders.{MAX_HOSTS};
 ghost use Rattle.hosttrace.specs.Hosts.{AreTraces, HostsRefuse, MetadataRefuses, TextFails, host_line, host_lines};
 
 use crate::status::{Refusal, Status};
@@ -16,7 +16,7 @@ use type_table::TraceMeta;
 
 /// What each host's metadata declares, or the status that tells of the first that is refused.
 pub fn read_hosts(alloc: Global, files: &[Items<u8>]) -> Result<Vec<TraceMeta>, Status>
-    requires { length files.now ≤ HOST_LIMIT }
+    requires { length files.now ≤ MAX_HOSTS }
     ensures traces { IfOk result (λ metas. AreTraces files.now (map trace metas.items)) }
     ensures fails { IfErr result (λ status. TextFails (HostsRefuse 0 files.now) status) }
 {
@@ -53,7 +53,7 @@ pub fn check_text(alloc: Global, metas: &[TraceMeta]) -> Result<Vec<u8>, OutOfMe
     Ok(text)
 }
 
-#[tactic(auto, unfolding(known_types::specs::Traces::trace))]
+#[tactic(auto, unfolding(type_scope::specs::Traces::trace))]
 fn write_host(host: u64, meta: &TraceMeta, out: &mut Vec<u8>) -> Result<(), OutOfMemory>
     ensures { OnOk result (out.new.items ≡ out.old.items ++ host_line host (trace meta.now)) }
 {

@@ -87,7 +87,7 @@ fn read_all<S: Store>(
     Err(ReadError::TooLarge)
 }
 
-// Reads the next part of a file behind the bytes that were read, and answers its length.
+// Reads the next part of a file after the bytes that were read, and answers its length.
 fn read_part<S: Store>(
     store: &mut S,
     dir: &[u8],

@@ -1,6 +1,6 @@
 //! The messages between two hosts, whose network events are made in memory.
 ghost use Rattle.std.specs.Prelude.{◌≡◌, ◌≤◌, length};
-ghost use Rattle.trace_types.specs.Limits.{MAX_EVENTS};
+ghost use Rattle.trace_types.specs.declared.limits.TheConstants.{MAX_EVENTS};
 ghost use Rattle.message_match.specs.Messages.{AreNumbered, AreSmall};
 
 use anyhow::bail;

@@ -80,7 +80,7 @@ fn refused<R: AllocGlobal + Threads + Sync + Abort>(
     refused_over(rt, "check d", &[(b"d", b"metadata", bytes)], line)
 }
 
-// The same behind the two items.
+// The same after the two items.
 fn refused_behind<R: AllocGlobal + Threads + Sync + Abort>(
     rt: &R,
     bytes: &[u8],

@@ -149,7 +149,7 @@ fn after_both_events_of_an_instant(rt: HostRuntime) -> Result<(), Fail> {
     Ok(())
 }
 
-// The step behind the first event builds the history to 250, and ends no interval yet.
+// The step after the first event builds the history to 250, and ends no interval yet.
 #[test]
 fn up_to_the_second_event(rt: HostRuntime) -> Result<(), Fail> {
     let count = 18;

@@ -20,7 +20,7 @@ use trace_types::Text;
 ///
 /// A file is opened where its byte 0 is read and read from there on through one handle, without a
 /// seek, so that a pipe can be read too. What is renamed over it meanwhile isn't seen. A read at
-/// another byte than the one behind the last read of that file is a fault, and so are a file that
+/// another byte than the one after the last read of that file is a fault, and so are a file that
 /// ends before the size that it had when it was opened, a name that isn't UTF-8, an interrupted call
 /// and every other error. The count of faults stands still at its greatest number.
 #[derive(Drop)]
@@ -81,7 +81,7 @@ impl<R: Files + AllocGlobal + Clone + Drop> Store for FolderStore<'_, R> {
     }
 }
 
-// What an error of the file system is to the caller; it counts unless it is want of memory.
+// What an error of the file system is to the caller; it counts unless it is lack of memory.
 fn failure(error: io::Error, faults: &mut u64) -> StoreError
     ensures grows { faults.old ≤ faults.new }
     ensures cause { result ≡ Failed → HasRisen faults.old faults.new }

@@ -62,7 +62,7 @@ impl MemoryStore {
     }
 }
 
-// Puts a file in the place of the one of its folder and name, or behind all others.
+// Puts a file in the place of the one of its folder and name, or after all others.
 fn put_file(files: &mut Vec<StoredFile>, file: StoredFile) -> Result<(), OutOfMemory>
     ensures ok { OnOk result (Puts (files_in files.old.items) file.dir file.name file.bytes (files_in files.new.items)) }
     ensures err { OnErr result (files.new.items ≡ files.old.items) }

@@ -8,10 +8,10 @@ use Rattle.trace_types.specs.declared.segment.SegKey.{SegKey}
 use Rattle.trace_types.specs.declared.woken.Woken.{Woken}
 use Rattle.type_table.specs.SameTrace.{AreBoth, IsSameEvent, IsSameTrace}
 use Rattle.type_table.specs.Table.{Table, IsSoundTable}
-use Rattle.type_table.specs.ToldKept.{IsSoundMeta, MetaParts}
+use Rattle.type_table.specs.TraceMetas.{IsSoundMeta, MetaParts}
 use Rattle.type_table.specs.declared.integer.Integer.{Integer}
-use Rattle.type_table.specs.declared.told.EventId.{EventId}
-use Rattle.type_table.specs.declared.told.EventParts.{EventParts}
+use Rattle.type_table.specs.declared.declared.EventId.{EventId}
+use Rattle.type_table.specs.declared.declared.EventParts.{EventParts}
 use Rattle.ctf_fields.specs.declared.field.Field.{Field, out-Field}
 use Rattle.ctf_fields.specs.declared.raw.RawEvent.{RawEvent}
 use Rattle.ctf_fields.specs.Fields.{number_of}
@@ -191,7 +191,7 @@ names_alike t u (suc place) (e ∷ es) (f ∷ fs) h = names_alike t u place es f
 -- the kernel event of two events that were read alike
 pub kind_alike : (m n : MetaParts) → IsSoundMeta m → IsSoundMeta n → IsSameTrace m n → (r s : RawEvent) → r.event ≡ s.event → Alike m.table n.table r.fields s.fields → kind_of m r ≡ kind_of n s
 kind_alike m n sm sn same r s place fields =
-    let name : name_of m r.event ≡ name_of n s.event = ap (λ o. unwrap_or o 0) (names_alike m.table n.table r.event m.told.events n.told.events same.events) ∙ ap (name_of n) place in
+    let name : name_of m r.event ≡ name_of n s.event = ap (λ o. unwrap_or o 0) (names_alike m.table n.table r.event m.declared.events n.declared.events same.events) ∙ ap (name_of n) place in
     let layout : layout_of m ≡ layout_of n = ap (map tracepoint_of) same.event_names in
     ap (λ a. kind_by m a r.fields) name
     ∙ (ap (λ l. or_other (name_of n s.event) (event_of (unwrap_or (slice_get l (name_of n s.event)) point.Other) (name_of n s.event) m.table r.fields)) layout

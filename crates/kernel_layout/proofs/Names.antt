@@ -12,7 +12,7 @@ add-one n = omega arith
 one-add : (n : ℕ) → 1 + n ≡ suc n
 one-add n = omega arith
 
--- bytes behind the first so many don't matter for so long a name
+-- bytes after the first so many don't matter for so long a name
 pub name_front : (n : ℕ) (bs : List ℕ) → take n (name_in (take n bs)) ≡ take n (name_in bs)
 name_front zero bs = refl
 name_front (suc n) [] = refl

@@ -1,7 +1,7 @@
 -- What a kernel event is, by its name and its fields. One that lacks a field in its form and range is another event, and incomplete (this project's own).
 use Rattle.std.specs.Prelude.{ℕ, ℤ, pos, neg_ℤ, Bool, true, false, List, codes, Option, Some, None, slice_get, unwrap_or, option_map}
 use Rattle.type_table.specs.Table.{Table}
-use Rattle.type_table.specs.ToldKept.{MetaParts}
+use Rattle.type_table.specs.TraceMetas.{MetaParts}
 use Rattle.trace_types.specs.declared.event.KernelEvent.{KernelEvent}
 use Rattle.trace_types.specs.declared.event.KernelEvent.TheVariants as kind
 use Rattle.trace_types.specs.declared.segment.SegKey.{SegKey}
@@ -115,7 +115,7 @@ or_other name None = (kind.Other name, true)
 
 -- the number of an event's name
 abbrev pub name_of : MetaParts → ℕ → ℕ
-name_of meta place = unwrap_or (option_map (λ e. e.1.name) (slice_get meta.told.events place)) 0
+name_of meta place = unwrap_or (option_map (λ e. e.1.name) (slice_get meta.declared.events place)) 0
 
 abbrev pub kind_by : MetaParts → ℕ → Field → KernelEvent × Bool
 kind_by meta name f = or_other name (event_of (unwrap_or (slice_get (layout_of meta) name) point.Other) name meta.table f)

@@ -3,7 +3,7 @@ use Rattle.std.specs.Prelude.{Bool, ◌||◌, nat_eq, List, codes, map, Option, 
 use Rattle.std.specs.List.{starts_with}
 use Rattle.tsdl_parser.specs.Symbols.{is_text}
 use Rattle.type_table.specs.Types.{Text}
-use Rattle.type_table.specs.ToldKept.{MetaParts}
+use Rattle.type_table.specs.TraceMetas.{MetaParts}
 use Rattle.kernel_layout.specs.declared.tracepoint.Tracepoint.{Tracepoint}
 use Rattle.kernel_layout.specs.declared.tracepoint.Tracepoint.TheVariants as point
 
@@ -57,4 +57,4 @@ tracepoint_of name = first_of (scheduler_tracepoint name) (first_of (interrupt_t
 
 -- the tracepoints of all event names of a trace
 abbrev pub layout_of : MetaParts → List Tracepoint
-layout_of meta = map tracepoint_of meta.told.event_names
+layout_of meta = map tracepoint_of meta.declared.event_names

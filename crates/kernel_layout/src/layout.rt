@@ -25,7 +25,7 @@ impl Model for Layout {
 }
 
 impl Layout {
-    /// The tracepoints of a trace. The only error is want of memory.
+    /// The tracepoints of a trace. The only error is lack of memory.
     pub fn new(alloc: Global, meta: &TraceMeta) -> Result<Layout, OutOfMemory>
         ensures { IfOk result (λ layout. layout ≡ layout_of meta.now) }
     {

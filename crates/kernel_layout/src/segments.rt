@@ -83,7 +83,7 @@ fn list_address(integer: Option<Integer>, items: &[Field]) -> Option<u128>
     Some(address)
 }
 
-// A number, and behind it one of so many bits.
+// A number, and after it one of so many bits.
 fn followed(size: u32, address: u128, item: &Field) -> Option<u128>
     requires { size ≤ 64 }
     ensures { result ≡ followed size address (number_of (Some item.now)) }

@@ -12,6 +12,7 @@ use Rattle.trace_types.specs.declared.value.Value.TheVariants.{Null, Int, Comm, 
 use Rattle.trace_types.specs.declared.event.Event.{Event}
 use Rattle.trace_types.specs.declared.event.KernelEvent.{KernelEvent}
 use Rattle.trace_types.specs.declared.event.KernelEvent.TheVariants.{Switch, Wakeup, WakeupNew, Waking, Fork, Exit, Free, Migrate, IrqIn, IrqOut, SoftIn, SoftOut, Process, CallIn, CallOut, Lost}
+use Rattle.trace_types.specs.declared.thread_status.TheConstants as status
 use Rattle.trace_types.specs.Same.{same_value}
 use Rattle.kernel_provider.specs.declared.rules.Assignment.{Assignment}
 
@@ -21,16 +22,16 @@ Values = AttributePath → Value
 
 -- a thread's status: running, ready, blocked or ended
 abbrev pub RUNNING : Value
-RUNNING = Int (pos 1)
+RUNNING = Int status.RUNNING
 
 abbrev pub READY : Value
-READY = Int (pos 2)
+READY = Int status.READY
 
 abbrev pub BLOCKED : Value
-BLOCKED = Int (pos 3)
+BLOCKED = Int status.BLOCKED
 
 abbrev pub ENDED : Value
-ENDED = Int (pos 4)
+ENDED = Int status.ENDED
 
 -- the thread of a tid on a processor; tid 0 is the processor's idle thread
 abbrev pub thread_of : ℕ → ℕ → ThreadKey

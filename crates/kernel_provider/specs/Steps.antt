@@ -16,7 +16,7 @@ use Rattle.kernel_provider.specs.Rules.{Values, assignments}
 abbrev pub Table : Type 0
 Table = List (AttributePath × Value)
 
--- the table with another value of a path: at its place, or behind the others where it wasn't added
+-- the table with another value of a path: at its place, or after the others where it wasn't added
 abbrev pub with_value : Table → AttributePath → Value → Table
 with_value [] p v = (p, v) ∷ []
 with_value (e ∷ es) p v = if same_path p e.0 then (e.0, v) ∷ es else e ∷ with_value es p v

@@ -46,7 +46,7 @@ impl Provider {
     }
 
     /// The next step of these events, which are the same at each call, and `None` when all steps
-    /// were given. At want of memory nothing has changed, and the same step may be asked for again.
+    /// were given. When memory runs out, nothing has changed, and the same step may be asked for again.
     pub fn next_step(&mut self, events: &[Merged]) -> Result<Option<Step>, OutOfMemory>
         ensures steps { IfOk result (λ step. left self.old events.now ≡ option_to_list step ++ left self.new events.now) }
         ensures none { IfOk result (λ step. IfNone step (left self.old events.now ≡ [])) }

@@ -11,7 +11,9 @@ ghost use Rattle.trace_types.specs.declared.value.Value.TheVariants.{Int};
 
 use crate::table::Table;
 use arrayvec::ArrayVec;
-use trace_types::{Comm, CpuLeaf, Event, KernelEvent, Path, ThreadKey, ThreadLeaf, Value};
+use trace_types::{
+    Comm, CpuLeaf, Event, KernelEvent, Path, ThreadKey, ThreadLeaf, Value, thread_status,
+};
 
 /// An attribute's next value.
 #[derive(Clone, Copy, Debug, PartialEq, Eq)]
@@ -37,13 +39,13 @@ impl Default for Assignment {
 /// The assignments of one event, at most so many.
 pub type Assignments = ArrayVec<Assignment, 8>;
 
-const RUNNING: Value = Value::Int(1);
+const RUNNING: Value = Value::Int(thread_status::RUNNING);
 
-const READY: Value = Value::Int(2);
+const READY: Value = Value::Int(thread_status::READY);
 
-const BLOCKED: Value = Value::Int(3);
+const BLOCKED: Value = Value::Int(thread_status::BLOCKED);
 
-const ENDED: Value = Value::Int(4);
+const ENDED: Value = Value::Int(thread_status::ENDED);
 
 /// Writes what an event assigns, in order, by the values before it.
 pub fn assign(table: &Table, event: &Event, out: &mut Assignments)

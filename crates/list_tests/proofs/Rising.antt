@@ -1,4 +1,4 @@
--- Merged events, with one more behind them.
+-- Merged events, with one more after them.
 use Rattle.std.proofs.Common.{◌≡◌, ℕ, ◌+◌, ◌^◌, ◌<◌, ◌≤◌, List, [], ◌∷◌, ◌++◌, arith}
 use Rattle.std.specs.List.{AllByRecursion}
 use Rattle.trace_types.specs.declared.event.Merged.{Merged}

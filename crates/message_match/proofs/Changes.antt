@@ -115,7 +115,7 @@ all_first_one_more : (P : ℕ → ℕ → Type 0) (es : Table) (key : SegKey) (x
 all_first_one_more P [] key x a b = (b, tt)
 all_first_one_more P (e ∷ es) key x a b = (a.0, all_first_one_more P es key x a.1 b)
 
--- a new key whose first send is behind all others
+-- a new key whose first send is after all others
 pub order_one_more : (es : Table) (key : SegKey) (s : Placed) → AreInOrder es → AllFirst (λ h i. IsEarlier h i s.host s.place) es → AreInOrder (es ++ (key, Sent s) ∷ [])
 order_one_more [] key s a b = (tt, tt)
 order_one_more (e ∷ es) key s a b = (both e.1 a.0 b.0, order_one_more es key s a.1 b.1)

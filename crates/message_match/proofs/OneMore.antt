@@ -1,4 +1,4 @@
--- What one more event, behind all before, makes of what was known of some events.
+-- What one more event, after all before, makes of what was known of some events.
 use Rattle.std.proofs.Common.{◌≡◌, ◌≢◌, ◌≤◌, ◌⊎◌, inl, inr, ⊎_elim, ℕ, sym, subst, arith, ◌∙◌, eq-eqb, ne_eqb}
 use native.Mathlib.Decide.{ℕ_discrete}
 use mathlib.Core.Logic.{dite}
@@ -14,7 +14,7 @@ pub record IsSame (Q Q' : ℕ → ℕ → ℕ → Type 0) : Type 0 where
   pub to : (h p t : ℕ) → Q h p t → Q' h p t
   pub back : (h p t : ℕ) → Q' h p t → Q h p t
 
--- the other has one more, behind all that the one has
+-- the other has one more, after all that the one has
 pub record HasOneMore (Q Q' : ℕ → ℕ → ℕ → Type 0) (host place time : ℕ) : Type 0 where
   pub to : (h p t : ℕ) → Q h p t → Q' h p t
   pub new : Q' host place time

@@ -47,7 +47,7 @@ module _ (hosts : List HostEvents) (host place : ℕ) where
 pub at_start : (hosts : List HostEvents) (kind : KernelEvent) (key : SegKey) → IsSame (no_events key) (so_far 0 0 (HasEvent hosts kind))
 at_start hosts kind key = record { to = λ h p t q. absurd q; back = λ h p t q. ⊎_elim (λ lt. omega arith) (λ w. omega (arith, w.1)) q.1 }
 
--- behind a host's last event comes the next host
+-- after a host's last event comes the next host
 pub next_host : (hosts : List HostEvents) (kind : KernelEvent) (host : ℕ) (list : HostEvents) → slice_get hosts host ≡ Some list → IsSame (so_far host (length list.events.items) (HasEvent hosts kind)) (so_far (host + 1) 0 (HasEvent hosts kind))
 next_host hosts kind host list of_host = record { to = λ h p t q. (q.0, forth h p q.1); back = λ h p t q. (q.0, ⊎_elim (λ lt. within h p t q.0 lt) (λ w. absurd (omega (arith, w.1))) q.1) }
   where
@@ -62,6 +62,6 @@ next_host hosts kind host list of_host = record { to = λ h p t q. (q.0, forth h
         let same : q.list ≡ list = cc (q.of_host, there) in
         inr (e, slice_get_within list.events.items p q.event (subst (λ l. slice_get l.events.items p ≡ Some q.event) same q.at))) (cases_lt h host)
 
--- behind the last host there is none
+-- after the last host there is none
 pub at_end : (hosts : List HostEvents) (kind : KernelEvent) (host : ℕ) → length hosts ≤ host → IsSame (so_far host 0 (HasEvent hosts kind)) (HasEvent hosts kind)
 at_end hosts kind host le = record { to = λ h p t q. q.0; back = λ h p t q. (q, let lt = slice_get_within hosts h q.list q.of_host in inl (omega (arith, lt))) }

@@ -1,6 +1,6 @@
 -- The messages between hosts: segments that one host sent and another received, matched by what tells a segment from others (this project's own rule; Trace Compass matches the packets of traces by such keys).
 use Rattle.std.specs.Prelude.{◌≡◌, ◌≢◌, ◌<◌, ◌≤◌, ◌⊎◌, ◌↔◌, ℕ, List, Some, length, slice_get, AllPairs, Contains}
-use Rattle.trace_types.specs.Limits.{MAX_EVENTS}
+use Rattle.trace_types.specs.declared.limits.TheConstants.{MAX_EVENTS}
 use Rattle.trace_types.specs.declared.event.Event.{Event}
 use Rattle.trace_types.specs.declared.event.KernelEvent.{KernelEvent}
 use Rattle.trace_types.specs.declared.event.KernelEvent.TheVariants.{Send, Receive}

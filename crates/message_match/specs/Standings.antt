@@ -131,7 +131,7 @@ abbrev pub AllFirst : (ℕ → ℕ → Type 0) → List (SegKey × Standing) →
 AllFirst P [] = Unit {0}
 AllFirst P (e ∷ es) = IfFirst e.1 P × AllFirst P es
 
--- each first send stands behind those before
+-- each first send stands after those before
 abbrev pub AreInOrder : List (SegKey × Standing) → Type 0
 AreInOrder [] = Unit {0}
 AreInOrder (e ∷ es) = IfFirst e.1 (λ host place. AllFirst (IsEarlier host place) es) × AreInOrder es

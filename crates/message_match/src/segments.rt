@@ -28,7 +28,7 @@ pub fn note_send(segments: &mut Segments, key: SegKey, send: Placed) -> Result<(
 }
 
 /// Notes that a host received a segment, if one is known to have sent it. Segments are mostly received
-/// in the order in which they were sent, so `guess` is the index behind that of the segment before;
+/// in the order in which they were sent, so `guess` is the index after that of the segment before;
 /// this gives the next one. A wrong guess costs a look-up.
 pub fn note_receive(segments: &mut Segments, key: SegKey, receive: Placed, guess: usize) -> usize
     requires { AreApart (keys segments.old) }

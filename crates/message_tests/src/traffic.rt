@@ -1,6 +1,6 @@
 //! Three hosts with few events.
 ghost use Rattle.std.specs.Prelude.{◌≡◌, ◌≤◌, IfOk, length};
-ghost use Rattle.trace_types.specs.Limits.{MAX_EVENTS};
+ghost use Rattle.trace_types.specs.declared.limits.TheConstants.{MAX_EVENTS};
 
 use message_match::{Message, matches};
 use std::alloc::{AllocError, AllocGlobal, Global};

@@ -1,4 +1,4 @@
--- Packets one behind the other.
+-- Packets one after the other.
 use Rattle.std.proofs.Common.{◌≡◌, ℕ, ◌<◌, List, [], ◌∷◌, ◌++◌, length, Some, None, sym, ap, ◌∙◌, subst, arith, append-nil}
 use Rattle.std.proofs.lemmas.Grind.{flat_map-append}
 use Rattle.meta_packets.specs.declared.header.MetaPacketCause.{MetaPacketCause}

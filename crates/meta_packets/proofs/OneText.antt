@@ -43,7 +43,7 @@ no_refusal bytes text order offset cause (inl p) r = p.0 order r.is_packets
 no_refusal bytes text order offset cause (inr (m, p)) r =
     text_or_refused m bytes text offset cause p (subst (λ o. IsRefused o bytes offset cause) (one_order order m bytes r.is_packets p.is_packets) r)
 
--- behind sound packets, two rests that fail a check are one
+-- after sound packets, two rests that fail a check are one
 one_end : (order : ByteOrderKind) (uuid bytes r q : List ℕ) (cs ds : List (List ℕ)) (a b : MetaPacketCause) → Leads order uuid bytes cs r → Leads order uuid bytes ds q → cause_of order uuid r ≡ Some a → cause_of order uuid q ≡ Some b → r ≡ q
 one_end order uuid bytes r q [] [] a b h g fails other = sym h ∙ g
 one_end order uuid bytes r q [] (d ∷ ds) a b h g fails other = absurd (let sound : cause_of order uuid r ≡ None = subst (λ t. cause_of order uuid t ≡ None) h g.0.sound in none_some _ a sound fails)

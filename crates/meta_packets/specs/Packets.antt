@@ -19,7 +19,7 @@ abbrev pub number : ByteOrderKind → List ℕ → ℕ
 number Big bytes = big_number 4 bytes
 number Little bytes = little_number 4 bytes
 
--- a packet's header: the uuid behind the magic number, then the checksum, both sizes in bits, and a byte each for compression and encryption
+-- a packet's header: the uuid after the magic number, then the checksum, both sizes in bits, and a byte each for compression and encryption
 abbrev pub uuid_of : List ℕ → List ℕ
 uuid_of packet = take 16 (drop 4 packet)
 
@@ -50,7 +50,7 @@ cause_of order uuid rest =
     else if not (same_bytes (uuid_of rest) uuid) then Some MixedUuid
     else None
 
--- the text of the packet at the front, and what is left behind it
+-- the text of the packet at the front, and what is left after it
 abbrev pub content_of : ByteOrderKind → List ℕ → List ℕ
 content_of order rest = take (content_bits order rest / 8 - HEADER) (drop HEADER rest)
 
@@ -63,7 +63,7 @@ pub record IsPacket (order : ByteOrderKind) (uuid rest content : List ℕ) : Typ
   pub sound : cause_of order uuid rest ≡ None
   pub text : content ≡ content_of order rest
 
--- packets with these texts stand one behind the other, and leave a rest
+-- packets with these texts stand one after the other, and leave a rest
 abbrev pub Leads : ByteOrderKind → List ℕ → List ℕ → List (List ℕ) → List ℕ → Type 0
 Leads order uuid bytes [] rest = bytes ≡ rest
 Leads order uuid bytes (content ∷ contents) rest = IsPacket order uuid bytes content × Leads order uuid (behind order bytes) contents rest
@@ -89,7 +89,7 @@ pub record IsJoin (order : ByteOrderKind) (bytes text : List ℕ) : Type 0 where
 abbrev pub IsText : List ℕ → List ℕ → Type 0
 IsText bytes text = (IsPlain bytes × (text ≡ bytes)) ⊎ ((order : ByteOrderKind) × IsJoin order bytes text)
 
--- behind sound packets, at this offset in bytes, the first check that fails
+-- after sound packets, at this offset in bytes, the first check that fails
 pub record IsRefused (order : ByteOrderKind) (bytes : List ℕ) (offset : ℕ) (cause : MetaPacketCause) : Type 0 where
   pub is_packets : IsPackets order bytes
   pub contents : List (List ℕ)

@@ -83,7 +83,7 @@ fn join_packets(
     Ok(text)
 }
 
-// The text of the packet at the front, which passes all checks, and what is left behind it.
+// The text of the packet at the front, which passes all checks, and what is left after it.
 fn cut(order: ByteOrderKind, rest: &[u8]) -> (&[u8], &[u8])
     requires { (uuid : List ℕ) × (cause_of order uuid rest.now ≡ None) }
     ensures content { result.0.now ≡ content_of order rest.now }

@@ -4,12 +4,12 @@ use Rattle.std.specs.Map.{keys_of}
 use Rattle.std.specs.List.{AllByRecursion}
 use Rattle.type_table.specs.SameTrace.{AreBoth, IsSameEvent, IsSameTrace}
 use Rattle.type_table.specs.Table.{Table}
-use Rattle.type_table.specs.ToldKept.{EventIn, IsSoundMeta, MetaParts, same_event}
-use Rattle.type_table.specs.declared.told.ClockRate.{ClockRate}
-use Rattle.type_table.specs.declared.told.EventId.{EventId}
-use Rattle.type_table.specs.declared.told.EventParts.{EventParts}
-use Rattle.type_table.specs.declared.told.StreamScopes.{StreamScopes}
-use Rattle.ctf_fields.specs.declared.around.Scopes.{Scopes}
+use Rattle.type_table.specs.TraceMetas.{EventIn, IsSoundMeta, MetaParts, same_event}
+use Rattle.type_table.specs.declared.declared.ClockRate.{ClockRate}
+use Rattle.type_table.specs.declared.declared.EventId.{EventId}
+use Rattle.type_table.specs.declared.declared.EventParts.{EventParts}
+use Rattle.type_table.specs.declared.declared.StreamScopes.{StreamScopes}
+use Rattle.ctf_fields.specs.declared.open_struct.Scopes.{Scopes}
 use Rattle.ctf_fields.specs.declared.field.Field.{Field}
 use Rattle.ctf_fields.specs.declared.raw.RawEvent.{RawEvent}
 use Rattle.ctf_fields.specs.Fields.{number_of, or_else}
@@ -21,17 +21,17 @@ use Rattle.ctf_fields.proofs.AlikeReading.{struct_alike}
 use Rattle.trace_types.specs.declared.cause.Cause.{Cause}
 use Rattle.trace_types.specs.declared.cause.Cause.TheVariants as cause
 use Rattle.packet_decoder.specs.Events.{Within, as_packet, as_result, cause_of, cleared, decoded, event, event_added, event_at, event_body, event_by, event_fields, event_head, event_of, event_timed, events_from, field_or_none, from_of, head_by, packet_events, scope_at, with_event_context, with_event_header, with_stream_context, within}
-use Rattle.packet_decoder.specs.Headings.{and_then, heading, read_scope}
-use Rattle.packet_decoder.specs.Times.{advanced, clock_of, in_range, rate_of, stamp_in, time_of, timed, usual_rate}
+use Rattle.packet_decoder.specs.PacketHeads.{and_then, packet_head, read_scope}
+use Rattle.packet_decoder.specs.Times.{clock_after, clock_of, in_range, rate_of, timestamp_in, time_of, time_after, usual_rate}
 use Rattle.packet_decoder.specs.Values.{id_in, number_named}
 use Rattle.packet_decoder.specs.declared.events.Cursor.{Cursor}
 use Rattle.packet_decoder.specs.declared.events.EventHead.{EventHead}
-use Rattle.packet_decoder.specs.declared.heading.Heading.{Heading}
+use Rattle.packet_decoder.specs.declared.packet_head.PacketHead.{PacketHead}
 use Rattle.packet_decoder.specs.declared.piece.PacketResult.{PacketResult}
 use Rattle.packet_decoder.specs.declared.piece.PacketResult.TheVariants as result
 use Rattle.packet_decoder.specs.declared.piece.PacketSpan.{PacketSpan}
-use Rattle.packet_decoder.specs.declared.times.Stamp.{Stamp}
-use Rattle.packet_decoder.proofs.AlikeHeadings.{AlikeHeading, AnswersBoth, SamePlace, SameScopes, same_heading, same_place, same_scope_read}
+use Rattle.packet_decoder.specs.declared.times.Timestamp.{Timestamp}
+use Rattle.packet_decoder.proofs.AlikePacketHeads.{AlikePacketHead, AnswersBoth, SamePlace, SameScopes, same_heading, same_place, same_scope_read}
 use Rattle.packet_decoder.proofs.AlikeValues.{same_id_number, same_stamp}
 
 -- ---- what is read in two packets alike
@@ -62,7 +62,7 @@ record AlikeWithin (w v : Within) : Type 0 where
   parts : SameScopes w.meta.table v.meta.table w.parts v.parts
   cpu : w.cpu ≡ v.cpu
 
--- a field of a scope, and one place behind it
+-- a field of a scope, and one place after it
 abbrev AlikeEnds : Table → Table → (Option Field × ℕ) → (Option Field × ℕ) → Type 0
 AlikeEnds t u x y = AlikeIf t u x.0 y.0 × (x.1 ≡ y.1)
 
@@ -114,14 +114,14 @@ event_alike t u place (suc i) (e ∷ es) (f ∷ fs) h a b = event_alike t u plac
 
 event_at_alike : (m n : MetaParts) → IsSoundMeta m → IsSoundMeta n → IsSameTrace m n → (place : Option ℕ) → AlikeEvents m.table n.table (event_at m place) (event_at n place)
 event_at_alike m n sm sn same None = tt
-event_at_alike m n sm sn same (Some place) = event_alike m.table n.table place place m.told.events n.told.events same.events sm.inside.told.events sn.inside.told.events
+event_at_alike m n sm sn same (Some place) = event_alike m.table n.table place place m.declared.events n.declared.events same.events sm.inside.declared.events sn.inside.declared.events
 
 event_by_alike : (m n : MetaParts) → IsSoundMeta m → IsSoundMeta n → IsSameTrace m n → (stream : ℕ) (id : Option ℕ) → AlikeEvents m.table n.table (event_by m stream id) (event_by n stream id)
 event_by_alike m n sm sn same stream None = tt
 event_by_alike m n sm sn same stream (Some id) =
-    subst (λ keys. AlikeEvents m.table n.table (event_at m (position (same_event (record { stream = stream; id = id })) (keys_of m.told.events))) (event_at n (position (same_event (record { stream = stream; id = id })) keys)))
-    (keys_alike m.table n.table m.told.events n.told.events same.events)
-    (event_at_alike m n sm sn same (position (same_event (record { stream = stream; id = id })) (keys_of m.told.events)))
+    subst (λ keys. AlikeEvents m.table n.table (event_at m (position (same_event (record { stream = stream; id = id })) (keys_of m.declared.events))) (event_at n (position (same_event (record { stream = stream; id = id })) keys)))
+    (keys_alike m.table n.table m.declared.events n.declared.events same.events)
+    (event_at_alike m n sm sn same (position (same_event (record { stream = stream; id = id })) (keys_of m.declared.events)))
 
 event_of_alike : (m n : MetaParts) → IsSoundMeta m → IsSoundMeta n → IsSameTrace m n → (stream : ℕ) (f g : Option Field) → AlikeIf m.table n.table f g → AlikeEvents m.table n.table (event_of m stream f) (event_of n stream g)
 event_of_alike m n sm sn same stream f g h =
@@ -135,9 +135,9 @@ rate_alike : (m n : MetaParts) → IsSameTrace m n → (clock : Option ℕ) → 
 rate_alike m n same None = ap (λ cs. unwrap_or (or_else None (if nat_eq (length cs) 1 then option_map (λ clock. clock.1) (slice_get cs 0) else None)) usual_rate) same.clocks
 rate_alike m n same (Some p) = ap (λ cs. unwrap_or (or_else (option_map (λ clock. clock.1) (slice_get cs p)) (if nat_eq (length cs) 1 then option_map (λ clock. clock.1) (slice_get cs 0) else None)) usual_rate) same.clocks
 
-timed_alike : (m n : MetaParts) → IsSameTrace m n → (stamp : Option Stamp) (clock : ℕ) → timed m stamp clock ≡ timed n stamp clock
-unfolding timed
-timed_alike m n same stamp clock = ap (λ rate. and_then (advanced clock stamp) (λ v. and_then (in_range (time_of rate v)) (λ time. Ok (v, time)))) (rate_alike m n same (clock_of stamp))
+timed_alike : (m n : MetaParts) → IsSameTrace m n → (timestamp : Option Timestamp) (clock : ℕ) → time_after m timestamp clock ≡ time_after n timestamp clock
+unfolding time_after
+timed_alike m n same timestamp clock = ap (λ rate. and_then (clock_after clock timestamp) (λ v. and_then (in_range (time_of rate v)) (λ time. Ok (v, time)))) (rate_alike m n same (clock_of timestamp))
 
 -- ---- an event
 
@@ -146,7 +146,7 @@ record AlikeHead (t u : Table) (h k : EventHead) : Type 0 where
   at : h.at ≡ k.at
   event : h.event ≡ k.event
   parts : AlikeParts t u h.parts k.parts
-  stamp : h.stamp ≡ k.stamp
+  timestamp : h.timestamp ≡ k.timestamp
 
 or_none_alike : (t u : Table) (f g : Option Field) → AlikeIf t u f g → Alike t u (field_or_none f) (field_or_none g)
 or_none_alike t u None None h = struct_alike t u [] [] no_members
@@ -172,7 +172,7 @@ module _ (w v : Within) (both : AlikeWithin w v) where
     at = is;
     event = events.0;
     parts = events.1;
-    stamp = same_stamp w.meta.table v.meta.table both.left.table both.right.table _ _ (named_alike w.meta.table v.meta.table (codes "timestamp") f g h);
+    timestamp = same_stamp w.meta.table v.meta.table both.left.table both.right.table _ _ (named_alike w.meta.table v.meta.table (codes "timestamp") f g h);
   }
 
   head_alike : (s r : Scopes) (at : ℕ) → AlikeScopes w.meta.table v.meta.table s r → AnswersBoth (AlikeHead w.meta.table v.meta.table) (event_head w s at) (event_head v r at)
@@ -198,8 +198,8 @@ module _ (w v : Within) (both : AlikeWithin w v) where
 
   timed_both : (c : Cursor) (h k : EventHead) (f g : Option Field) (at to : ℕ) → AlikeHead w.meta.table v.meta.table h k → AlikeIf w.meta.table v.meta.table f g → at ≡ to → AnswersBoth (AlikeStep w.meta.table v.meta.table) (event_timed w c h f at) (event_timed v c k g to)
   timed_both c h k f g at to head fields is =
-      let times : timed w.meta h.stamp c.clock ≡ timed v.meta k.stamp c.clock = timed_alike w.meta v.meta both.same h.stamp c.clock ∙ ap (λ s. timed v.meta s c.clock) head.stamp in
-      by (nat_eq at c.at) (nat_eq to c.at) (ap (λ a. nat_eq a c.at) is) (timed w.meta h.stamp c.clock) (timed v.meta k.stamp c.clock) times
+      let times : time_after w.meta h.timestamp c.clock ≡ time_after v.meta k.timestamp c.clock = timed_alike w.meta v.meta both.same h.timestamp c.clock ∙ ap (λ s. time_after v.meta s c.clock) head.timestamp in
+      by (nat_eq at c.at) (nat_eq to c.at) (ap (λ a. nat_eq a c.at) is) (time_after w.meta h.timestamp c.clock) (time_after v.meta k.timestamp c.clock) times
     where
       end : (x y : Result (ℕ × ℕ) Cause) → x ≡ y → AnswersBoth (AlikeStep w.meta.table v.meta.table)
           (and_then x (λ t. Ok (record { time = t.1; cpu = w.cpu; event = h.event; fields = field_or_none f }, record { clock = t.0; at = at })))
@@ -261,7 +261,7 @@ module _ (w v : Within) (both : AlikeWithin w v) where
 -- ---- packets
 
 module _ (m n : MetaParts) (sm : IsSoundMeta m) (sn : IsSoundMeta n) (same : IsSameTrace m n) where
-  packet_alike : (rest : List ℕ) (span : PacketSpan) (h k : Heading) → AlikeHeading m n sm sn same h k → AnswersBoth (AlikeRaws m.table n.table) (packet_events m rest span h) (packet_events n rest span k)
+  packet_alike : (rest : List ℕ) (span : PacketSpan) (h k : PacketHead) → AlikePacketHead m n sm sn same h k → AnswersBoth (AlikeRaws m.table n.table) (packet_events m rest span h) (packet_events n rest span k)
   unfolding packet_events
   packet_alike rest span h k a =
       events_alike (within m rest span h) (within n rest span k) (record { left = sm; right = sn; same = same; bytes = refl; end = refl; stream = a.stream; parts = a.parts; cpu = refl }) span.content_bits (cleared h.scopes) (cleared k.scopes) [] [] _ _
@@ -277,4 +277,4 @@ module _ (m n : MetaParts) (sm : IsSoundMeta m) (sn : IsSoundMeta n) (same : IsS
   pub decoded_alike : (file : List ℕ) (span : PacketSpan) → AlikePackets m.table n.table (decoded m file span) (decoded n file span)
   unfolding decoded
   decoded_alike file span =
-      as_packets _ _ (then_alike (AlikeHeading m n sm sn same) (AlikeRaws m.table n.table) _ _ _ _ (same_heading m n sm sn same (drop span.offset file)) (λ h k a. packet_alike (drop span.offset file) span h k a))
+      as_packets _ _ (then_alike (AlikePacketHead m n sm sn same) (AlikeRaws m.table n.table) _ _ _ _ (same_heading m n sm sn same (drop span.offset file)) (λ h k a. packet_alike (drop span.offset file) span h k a))

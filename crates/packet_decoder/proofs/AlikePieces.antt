@@ -2,21 +2,21 @@
 use Rattle.std.proofs.Common.{◌≡◌, ◌∙◌, ℕ, ℤ, zero, suc, ◌+◌, ◌*◌, ◌^◌, List, [], ◌∷◌, length, drop, Option, Some, None, Result, Ok, Err, codes, unwrap_or, refl, sym, ap, ap₂}
 use Rattle.type_table.specs.SameTrace.{IsSameTrace}
 use Rattle.type_table.specs.Table.{Table}
-use Rattle.type_table.specs.ToldKept.{IsSoundMeta, MetaParts}
+use Rattle.type_table.specs.TraceMetas.{IsSoundMeta, MetaParts}
 use Rattle.ctf_fields.specs.declared.field.Field.{Field}
 use Rattle.ctf_fields.specs.Values.{below_if_any, number_named, value_named}
 use Rattle.ctf_fields.proofs.Alike.{AlikeIf}
 use Rattle.trace_types.specs.declared.cause.Cause.{Cause}
-use Rattle.packet_decoder.specs.Headings.{and_then, heading}
+use Rattle.packet_decoder.specs.PacketHeads.{and_then, packet_head}
 use Rattle.packet_decoder.specs.Pieces.{packet_at, pieces, pieces_by, pieces_from, sizes, span_by, span_of}
 use Rattle.packet_decoder.specs.Values.{counter_in}
-use Rattle.packet_decoder.specs.declared.heading.Heading.{Heading}
+use Rattle.packet_decoder.specs.declared.packet_head.PacketHead.{PacketHead}
 use Rattle.packet_decoder.specs.declared.piece.Counter.{Counter}
 use Rattle.packet_decoder.specs.declared.piece.PacketSpan.{PacketSpan}
 use Rattle.packet_decoder.specs.declared.piece.Piece.{Piece}
 use Rattle.packet_decoder.specs.declared.piece.Piece.TheVariants as piece
 use Rattle.ctf_fields.proofs.AlikeFields.{named_alike, value_alike}
-use Rattle.packet_decoder.proofs.AlikeHeadings.{AlikeHeading, AnswersBoth, same_heading}
+use Rattle.packet_decoder.proofs.AlikePacketHeads.{AlikePacketHead, AnswersBoth, same_heading}
 use Rattle.packet_decoder.proofs.AlikeValues.{same_counter}
 
 span_parts : ℕ → ℕ × ℕ → ℕ → ℕ → ℕ → ℕ → Option Counter → Option Counter → PacketSpan
@@ -36,7 +36,7 @@ module _ (m n : MetaParts) (sm : IsSoundMeta m) (sn : IsSoundMeta n) (same : IsS
   same_count : (name : List ℕ) (f g : Option Field) → AlikeIf m.table n.table f g → counter_in m.table (number_named m.table name f) ≡ counter_in n.table (number_named n.table name g)
   same_count name f g h = same_counter m.table n.table sm.table sn.table _ _ (named_alike m.table n.table name f g h)
 
-  same_span_by : (offset : ℕ) (h k : Heading) (s : Option (ℕ × ℕ)) → AlikeHeading m n sm sn same h k → span_by m.table offset h.scopes.packet_context h s ≡ span_by n.table offset k.scopes.packet_context k s
+  same_span_by : (offset : ℕ) (h k : PacketHead) (s : Option (ℕ × ℕ)) → AlikePacketHead m n sm sn same h k → span_by m.table offset h.scopes.packet_context h s ≡ span_by n.table offset k.scopes.packet_context k s
   same_span_by offset h k None a = refl
   same_span_by offset h k (Some s) a =
       let begin = same_value (codes "timestamp_begin") h.scopes.packet_context k.scopes.packet_context a.scopes.packet_context in
@@ -45,7 +45,7 @@ module _ (m n : MetaParts) (sm : IsSoundMeta m) (sn : IsSoundMeta n) (same : IsS
       let discarded = same_count (codes "events_discarded") h.scopes.packet_context k.scopes.packet_context a.scopes.packet_context in
       same_parts offset s h.start k.start h.stream k.stream _ _ _ _ _ _ _ _ a.start a.stream (ap (λ v. unwrap_or (below_if_any (2 ^ 64) v) 0) begin) (ap (λ v. unwrap_or (below_if_any 4294967296 v) 0) cpu) seq discarded
 
-  same_span_of : (offset left : ℕ) (h k : Heading) → AlikeHeading m n sm sn same h k → span_of m.table offset left h ≡ span_of n.table offset left k
+  same_span_of : (offset left : ℕ) (h k : PacketHead) → AlikePacketHead m n sm sn same h k → span_of m.table offset left h ≡ span_of n.table offset left k
   unfolding span_of
   same_span_of offset left h k a =
       let packet = same_value (codes "packet_size") h.scopes.packet_context k.scopes.packet_context a.scopes.packet_context in
@@ -56,9 +56,9 @@ module _ (m n : MetaParts) (sm : IsSoundMeta m) (sn : IsSoundMeta n) (same : IsS
 
   same_packet : (offset : ℕ) (rest : List ℕ) → packet_at m offset rest ≡ packet_at n offset rest
   unfolding packet_at
-  same_packet offset rest = by (heading m rest) (heading n rest) (same_heading m n sm sn same rest)
+  same_packet offset rest = by (packet_head m rest) (packet_head n rest) (same_heading m n sm sn same rest)
     where
-      by : (x y : Result Heading Cause) → AnswersBoth (AlikeHeading m n sm sn same) x y → and_then x (span_of m.table offset (8 * length rest)) ≡ and_then y (span_of n.table offset (8 * length rest))
+      by : (x y : Result PacketHead Cause) → AnswersBoth (AlikePacketHead m n sm sn same) x y → and_then x (span_of m.table offset (8 * length rest)) ≡ and_then y (span_of n.table offset (8 * length rest))
       by (Ok h) (Ok k) a = same_span_of offset (8 * length rest) h k a
       by (Ok h) (Err d) a = absurd a
       by (Err c) (Ok k) a = absurd a

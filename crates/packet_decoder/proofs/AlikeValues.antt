@@ -7,8 +7,8 @@ use Rattle.ctf_fields.specs.declared.field.Field.TheOpen.{Field-F}
 use Rattle.ctf_fields.specs.Fields.{number_of}
 use Rattle.ctf_fields.specs.Reading.{integer_type}
 use Rattle.ctf_fields.proofs.Alike.{Alike, ints, texts, structs, choices, lists, AlikeItems, no_items, and_item, AlikeIf, AlikeNumbers}
-use Rattle.packet_decoder.specs.Times.{stamp_by, stamp_in}
-use Rattle.packet_decoder.specs.Values.{are_bytes, counter_by, counter_in, id_fits, id_in, is_byte, is_id, is_magic, magic_fits, below}
+use Rattle.packet_decoder.specs.Times.{timestamp_by, timestamp_in}
+use Rattle.packet_decoder.specs.Values.{are_bytes, counter_by, counter_in, uuid_matches, id_in, is_byte, is_id, is_magic, magic_matches, below}
 use Rattle.ctf_fields.proofs.SameTypes.{same_integer}
 use Rattle.ctf_fields.proofs.AlikeFields.{number_alike}
 
@@ -19,7 +19,7 @@ module _ (t u : Table) where
   magic_by (Some n) None h = absurd h
   magic_by (Some n) (Some m) h = ap (λ z. int_eq z (pos 0xc1fc1fc1)) h.0
 
-  pub same_magic : (f g : Option Field) → AlikeIf t u f g → magic_fits f ≡ magic_fits g
+  pub same_magic : (f g : Option Field) → AlikeIf t u f g → magic_matches f ≡ magic_matches g
   same_magic f g h = magic_by (number_of f) (number_of g) (number_alike t u f g h)
 
   byte_by : (b : ℕ) (n m : Option (ℤ × ℕ)) → AlikeNumbers t u n m → is_byte b n ≡ is_byte b m
@@ -45,7 +45,7 @@ module _ (t u : Table) where
   same_id_in uuid f g (choices f2 g2 a b x y n h e d) = ap (is_id uuid) e ∙ sym (ap (is_id uuid) d)
   same_id_in uuid f g (lists f2 g2 a b xs ys s h e d) = ap (is_id uuid) e ∙ (ap₂ (λ n v. if n == 16 then v else true) (same_length xs ys h) (same_bytes uuid xs ys h) ∙ sym (ap (is_id uuid) d))
 
-  pub same_id : (uuid : Option (List ℕ)) (f g : Option Field) → AlikeIf t u f g → id_fits uuid f ≡ id_fits uuid g
+  pub same_id : (uuid : Option (List ℕ)) (f g : Option Field) → AlikeIf t u f g → uuid_matches uuid f ≡ uuid_matches uuid g
   same_id None f g h = refl
   same_id (Some uuid) None None h = refl
   same_id (Some uuid) None (Some g) h = absurd h
@@ -65,8 +65,8 @@ module _ (t u : Table) where
     same_counter (Some n) None h = absurd h
     same_counter (Some n) (Some m) h = ap₂ counter_by (same_integer t u n.1 m.1 st su h.1) h.0
 
-    pub same_stamp : (n m : Option (ℤ × ℕ)) → AlikeNumbers t u n m → stamp_in t n ≡ stamp_in u m
+    pub same_stamp : (n m : Option (ℤ × ℕ)) → AlikeNumbers t u n m → timestamp_in t n ≡ timestamp_in u m
     same_stamp None None h = refl
     same_stamp None (Some m) h = absurd h
     same_stamp (Some n) None h = absurd h
-    same_stamp (Some n) (Some m) h = ap₂ stamp_by (same_integer t u n.1 m.1 st su h.1) h.0
+    same_stamp (Some n) (Some m) h = ap₂ timestamp_by (same_integer t u n.1 m.1 st su h.1) h.0

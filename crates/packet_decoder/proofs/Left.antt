@@ -1,10 +1,10 @@
 -- The events that are left of a packet, one by one.
 use Rattle.std.proofs.Common.{◌≡◌, ◌∙◌, ℕ, zero, suc, ◌+◌, ◌-◌, ◌<◌, ◌≤◌, Bool, true, false, if◌then◌else◌, List, [], ◌∷◌, ◌++◌, append_assoc, append-nil, nat_lt, Result, Ok, Err, refl, sym, ap, arith}
-use Rattle.ctf_fields.specs.declared.around.Scopes.{Scopes}
+use Rattle.ctf_fields.specs.declared.open_struct.Scopes.{Scopes}
 use Rattle.ctf_fields.specs.declared.raw.RawEvent.{RawEvent}
 use Rattle.packet_decoder.specs.declared.piece.PacketResult.TheVariants as packet
 use Rattle.packet_decoder.specs.Events.{Within, as_packet, event, event_added, events_from}
-use Rattle.packet_decoder.specs.Headings.{Answers, and_then}
+use Rattle.packet_decoder.specs.PacketHeads.{Answers, and_then}
 use Rattle.packet_decoder.specs.declared.failure.Failure.{Failure}
 use Rattle.packet_decoder.specs.declared.failure.Failure.TheVariants.{Refused, OutOfMemory}
 use Rattle.packet_decoder.specs.Unread.{and_before}
@@ -15,7 +15,7 @@ use Rattle.packet_decoder.proofs.Turns.{step_in}
 abbrev Answer : Type 0
 Answer = Result (List RawEvent) Cause
 
--- events that were read, and what is left behind them
+-- events that were read, and what is left after them
 abbrev pub behind : List RawEvent → Answer → Answer
 behind done (Ok es) = Ok (done ++ es)
 behind done (Err c) = Err c

@@ -3,6 +3,6 @@ pub mod Seconds
 pub mod Turns
 pub mod Left
 pub mod AlikeValues
-pub mod AlikeHeadings
+pub mod AlikePacketHeads
 pub mod AlikePieces
 pub mod AlikeEvents

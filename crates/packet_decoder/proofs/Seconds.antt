@@ -6,7 +6,7 @@ use Rattle.std.proofs.lemmas.Int.{ints, fits_signed_from_abs, to_z-of_z, unsigne
 use Rattle.std.specs.Int.{int_div_euclid}
 use Rattle.std.specs.Int.RustNames.{FitsSigned, unsigned_abs}
 use mir.Syntax.{w128}
-use Rattle.type_table.specs.ToldKept.{IsOffset}
+use Rattle.type_table.specs.TraceMetas.{IsOffset}
 
 abbrev b : ℤ → ℤ
 b z = to_z w128 (of_z w128 z)

@@ -1,5 +1,5 @@
 pub mod Events
-pub mod Headings
+pub mod PacketHeads
 pub mod Pieces
 pub mod Times
 pub mod Values

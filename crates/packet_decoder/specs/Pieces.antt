@@ -1,13 +1,13 @@
 -- The pieces that a stream file is cut into (CTF 1.8, section 5; the sizes that are taken for missing ones, and the order of the checks, are this project's own).
 use Rattle.std.specs.Prelude.{ℕ, zero, suc, ℤ, pos, ◌+◌, ◌*◌, ◌/◌, ◌%◌, ◌^◌, ◌≤◌, ◌&&◌, ◌==◌, nat_le, List, [], ◌∷◌, length, drop, Option, Some, None, Result, Ok, Err, codes, unwrap_or, if◌then◌else◌}
 use Rattle.type_table.specs.Table.{Table}
-use Rattle.type_table.specs.ToldKept.{MetaParts}
+use Rattle.type_table.specs.TraceMetas.{MetaParts}
 use Rattle.ctf_fields.specs.declared.field.Field.{Field}
-use Rattle.packet_decoder.specs.Headings.{and_then, heading}
+use Rattle.packet_decoder.specs.PacketHeads.{and_then, packet_head}
 use Rattle.packet_decoder.specs.Values.{below_if_any, counter_in, number_named, value_named}
 use Rattle.trace_types.specs.declared.cause.Cause.{Cause}
 use Rattle.trace_types.specs.declared.cause.Cause.TheVariants as cause
-use Rattle.packet_decoder.specs.declared.heading.Heading.{Heading}
+use Rattle.packet_decoder.specs.declared.packet_head.PacketHead.{PacketHead}
 use Rattle.packet_decoder.specs.declared.piece.PacketSpan.{PacketSpan}
 use Rattle.packet_decoder.specs.declared.piece.Piece.{Piece}
 use Rattle.packet_decoder.specs.declared.piece.Piece.TheVariants as piece
@@ -25,7 +25,7 @@ sizes left start (Some p) None = right_sizes left start p p
 sizes left start None (Some c) = right_sizes left start c c
 sizes left start None None = right_sizes left start (pos left) (pos left)
 
-abbrev pub span_by : Table → ℕ → Option Field → Heading → Option (ℕ × ℕ) → Result PacketSpan Cause
+abbrev pub span_by : Table → ℕ → Option Field → PacketHead → Option (ℕ × ℕ) → Result PacketSpan Cause
 span_by t offset context h None = Err cause.BadSize
 span_by t offset context h (Some s) = Ok (record {
   offset = offset;
@@ -39,14 +39,14 @@ span_by t offset context h (Some s) = Ok (record {
   discarded = counter_in t (number_named t (codes "events_discarded") context);
 })
 
--- a packet with this heading, at this place in a file of which so many bits are left
-unfoldable pub span_of : Table → ℕ → ℕ → Heading → Result PacketSpan Cause
+-- a packet with this head, at this place in a file of which so many bits are left
+unfoldable pub span_of : Table → ℕ → ℕ → PacketHead → Result PacketSpan Cause
 span_of t offset left h =
     span_by t offset h.scopes.packet_context h (sizes left h.start (value_named t (codes "packet_size") h.scopes.packet_context) (value_named t (codes "content_size") h.scopes.packet_context))
 
 -- the packet that these bytes begin with, which lie at this place in a file
 unfoldable pub packet_at : MetaParts → ℕ → List ℕ → Result PacketSpan Cause
-packet_at meta offset rest = and_then (heading meta rest) (span_of meta.table offset (8 * length rest))
+packet_at meta offset rest = and_then (packet_head meta rest) (span_of meta.table offset (8 * length rest))
 
 abbrev pub pieces_by : Result PacketSpan Cause → ℕ → (PacketSpan → List Piece) → List Piece
 pieces_by (Ok span) offset more = piece.Packet span ∷ more span
@@ -59,7 +59,7 @@ pieces_from (suc most) meta offset [] = []
 pieces_from (suc most) meta offset (b ∷ rest) =
     pieces_by (packet_at meta offset (b ∷ rest)) offset (λ span. pieces_from most meta (offset + span.bytes) (drop span.bytes (b ∷ rest)))
 
--- one packet behind the other, up to the end or to a place where none can be cut
+-- one packet after the other, up to the end or to a place where none can be cut
 abbrev pub pieces : MetaParts → List ℕ → List Piece
 pieces meta file = pieces_from (length file) meta 0 file
 

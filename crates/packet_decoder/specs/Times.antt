@@ -2,33 +2,33 @@
 use Rattle.std.specs.Prelude.{ℕ, ℤ, pos, ◌+◌, ◌-◌, ◌%◌, ◌^◌, ◌+ℤ◌, ◌*ℤ◌, ◌&&◌, nat_eq, nat_le, nat_lt, length, Option, Some, None, Result, Ok, Err, option_map, slice_get, unwrap_or, if◌then◌else◌}
 use Rattle.std.specs.Int.{int_div_euclid}
 use Rattle.type_table.specs.Table.{Table}
-use Rattle.type_table.specs.ToldKept.{MetaParts}
+use Rattle.type_table.specs.TraceMetas.{MetaParts}
 use Rattle.type_table.specs.declared.integer.Integer.{Integer}
-use Rattle.type_table.specs.declared.told.ClockRate.{ClockRate}
+use Rattle.type_table.specs.declared.declared.ClockRate.{ClockRate}
 use Rattle.ctf_fields.specs.Fields.{or_else}
 use Rattle.ctf_fields.specs.Reading.{integer_type}
-use Rattle.packet_decoder.specs.Headings.{and_then}
+use Rattle.packet_decoder.specs.PacketHeads.{and_then}
 use Rattle.packet_decoder.specs.Values.{below}
 use Rattle.trace_types.specs.declared.cause.Cause.{Cause}
 use Rattle.trace_types.specs.declared.cause.Cause.TheVariants as cause
-use Rattle.packet_decoder.specs.declared.times.Stamp.{Stamp}
+use Rattle.packet_decoder.specs.declared.times.Timestamp.{Timestamp}
 
 -- a timestamp is a number that isn't negative
-abbrev pub stamp_by : Option Integer → ℤ → Option Stamp
-stamp_by None z = None
-stamp_by (Some i) z = option_map (λ v. record { value = v; size = i.size; clock = i.clock }) (below (2 ^ 64) z)
+abbrev pub timestamp_by : Option Integer → ℤ → Option Timestamp
+timestamp_by None z = None
+timestamp_by (Some i) z = option_map (λ v. record { value = v; size = i.size; clock = i.clock }) (below (2 ^ 64) z)
 
-abbrev pub stamp_in : Table → Option (ℤ × ℕ) → Option Stamp
-stamp_in t None = None
-stamp_in t (Some n) = stamp_by (integer_type t n.1) n.0
+abbrev pub timestamp_in : Table → Option (ℤ × ℕ) → Option Timestamp
+timestamp_in t None = None
+timestamp_in t (Some n) = timestamp_by (integer_type t n.1) n.0
 
 abbrev pub within_64 : ℕ → Result ℕ Cause
 within_64 n = if nat_lt n (2 ^ 64) then Ok n else Err cause.TimeRange
 
 -- the clock's value after a timestamp: one of 64 bits is the value, which doesn't fall; one of fewer replaces that many low bits, and carries where it is less than those
-abbrev pub advanced : ℕ → Option Stamp → Result ℕ Cause
-advanced clock None = Ok clock
-advanced clock (Some s) =
+abbrev pub clock_after : ℕ → Option Timestamp → Result ℕ Cause
+clock_after clock None = Ok clock
+clock_after clock (Some s) =
     if nat_le 64 s.size then (if nat_lt s.value clock then Err cause.TimeBack else Ok s.value)
     else within_64 (clock - clock % 2 ^ s.size + s.value + (if nat_lt s.value (clock % 2 ^ s.size) then 2 ^ s.size else 0))
 
@@ -37,18 +37,18 @@ abbrev pub usual_rate : ClockRate
 usual_rate = record { freq = 1000000000; offset = pos 0; offset_s = pos 0 }
 
 abbrev pub rate_at : MetaParts → ℕ → Option ClockRate
-rate_at meta place = option_map (λ clock. clock.1) (slice_get meta.told.clocks place)
+rate_at meta place = option_map (λ clock. clock.1) (slice_get meta.declared.clocks place)
 
 abbrev pub rate_mapped : MetaParts → Option ℕ → Option ClockRate
 rate_mapped meta None = None
 rate_mapped meta (Some place) = rate_at meta place
 
-abbrev pub clock_of : Option Stamp → Option ℕ
+abbrev pub clock_of : Option Timestamp → Option ℕ
 clock_of None = None
 clock_of (Some s) = s.clock
 
 abbrev pub only_rate : MetaParts → Option ClockRate
-only_rate meta = if nat_eq (length meta.told.clocks) 1 then rate_at meta 0 else None
+only_rate meta = if nat_eq (length meta.declared.clocks) 1 then rate_at meta 0 else None
 
 -- the clock that the timestamp's type names, and else the only one that is declared
 abbrev pub rate_of : MetaParts → Option ℕ → ClockRate
@@ -64,5 +64,5 @@ in_range (pos n) = if nat_le 1 n && nat_le n 4611686018427387903 then Ok n else 
 in_range _ = Err cause.TimeRange
 
 -- the clock's value after a timestamp, and the time then
-unfoldable pub timed : MetaParts → Option Stamp → ℕ → Result (ℕ × ℕ) Cause
-timed meta stamp clock = and_then (advanced clock stamp) (λ v. and_then (in_range (time_of (rate_of meta (clock_of stamp)) v)) (λ time. Ok (v, time)))
+unfoldable pub time_after : MetaParts → Option Timestamp → ℕ → Result (ℕ × ℕ) Cause
+time_after meta timestamp clock = and_then (clock_after clock timestamp) (λ v. and_then (in_range (time_of (rate_of meta (clock_of timestamp)) v)) (λ time. Ok (v, time)))

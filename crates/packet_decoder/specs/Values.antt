@@ -16,8 +16,8 @@ abbrev pub is_magic : Option (ℤ × ℕ) → Bool
 is_magic None = true
 is_magic (Some n) = int_eq n.0 (pos 0xc1fc1fc1)
 
-abbrev pub magic_fits : Option Field → Bool
-magic_fits f = is_magic (number_of f)
+abbrev pub magic_matches : Option Field → Bool
+magic_matches f = is_magic (number_of f)
 
 -- the trace's id, where both are there
 abbrev pub is_byte : ℕ → Option (ℤ × ℕ) → Bool
@@ -33,12 +33,12 @@ abbrev pub is_id : List ℕ → Field-F Field Member → Bool
 is_id uuid (Field-F.List item fs) = if length fs == 16 then are_bytes uuid fs else true
 is_id uuid _ = true
 
-abbrev pub id_fits : Option (List ℕ) → Option Field → Bool
-id_fits None f = true
-id_fits (Some uuid) None = true
-id_fits (Some uuid) (Some f) = is_id uuid (out-Field f)
+abbrev pub uuid_matches : Option (List ℕ) → Option Field → Bool
+uuid_matches None f = true
+uuid_matches (Some uuid) None = true
+uuid_matches (Some uuid) (Some f) = is_id uuid (out-Field f)
 
--- an id, 0 where none is told
+-- an id, 0 where none is declared
 abbrev pub id_in : Option (ℤ × ℕ) → Option ℕ
 id_in None = Some 0
 id_in (Some n) = below (2 ^ 64) n.0

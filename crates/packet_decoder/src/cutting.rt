@@ -1,10 +1,10 @@
 //! Stream files, cut into packets.
 ghost use Rattle.std.specs.Prelude.{◌≡◌, ◌≤◌, ◌<◌, ◌+◌, ◌*◌, ◌^◌, IfOk, IfSome, drop, length};
-ghost use Rattle.packet_decoder.specs.Headings.{Answers};
+ghost use Rattle.packet_decoder.specs.PacketHeads.{Answers};
 ghost use Rattle.packet_decoder.specs.Pieces.{AllLieIn, LiesIn, packet_at, pieces, right_sizes, sizes, span_of};
 
 use crate::failure::Failure;
-use crate::heading::{Heading, read_heading};
+use crate::packet_head::{PacketHead, read_packet_head};
 use crate::piece::{PacketSpan, Piece};
 use crate::values::{below_32, counter_in};
 use ctf_fields::{below_64, number_named, value_named};
@@ -14,7 +14,7 @@ use trace_types::{Cause, OutOfMemory};
 use type_table::{Table, TraceMeta};
 
 /// The pieces of a stream file, in order: packets without a gap between them, up to the end or to a place where no
-/// packet can be cut; what lies behind that is the last piece.
+/// packet can be cut; what lies after that is the last piece.
 pub fn cut(alloc: Global, meta: &TraceMeta, file: &[u8]) -> Result<Items<Piece>, OutOfMemory>
     requires { length file.now ≤ 2 ^ 60 }
     ensures pieces { IfOk result (λ found. found ≡ pieces meta.now file.now) }
@@ -60,28 +60,33 @@ fn packet_at(
     ensures answers { Answers (packet_at meta.now offset rest.now) result }
     ensures within { IfOk result (λ span. (1 ≤ span.bytes) × (span.bytes ≤ length rest.now) × (span.content_bits ≤ 8 * span.bytes) × (span.start_bit ≤ span.content_bits) × (span.offset ≡ offset)) }
 {
-    let heading = read_heading(alloc, meta, rest)?;
-    span_of(meta.table(), offset, 8 * rest.len() as u64, &heading)
+    let packet_head = read_packet_head(alloc, meta, rest)?;
+    span_of(meta.table(), offset, 8 * rest.len() as u64, &packet_head)
 }
 
-// A packet with this heading, at this place in a file of which so many bits are left.
+// A packet with this head, at this place in a file of which so many bits are left.
 #[tactic(auto, unfolding(crate::specs::Pieces::span_of))]
-fn span_of(table: &Table, offset: u64, left: u64, heading: &Heading) -> Result<PacketSpan, Failure>
-    ensures answers { Answers (span_of table.now offset left heading.now) result }
+fn span_of(
+    table: &Table,
+    offset: u64,
+    left: u64,
+    packet_head: &PacketHead,
+) -> Result<PacketSpan, Failure>
+    ensures answers { Answers (span_of table.now offset left packet_head.now) result }
     ensures within { IfOk result (λ span. (1 ≤ span.bytes) × (8 * span.bytes ≤ left) × (span.content_bits ≤ 8 * span.bytes) × (span.start_bit ≤ span.content_bits) × (span.offset ≡ offset)) }
 {
-    let context = heading.scopes.packet_context.as_ref();
+    let context = packet_head.scopes.packet_context.as_ref();
     let packet = value_named(table, b"packet_size", context);
     let content = value_named(table, b"content_size", context);
-    let Some((bytes, content_bits)) = sizes(left, heading.start, packet, content) else {
+    let Some((bytes, content_bits)) = sizes(left, packet_head.start, packet, content) else {
         return Err(Failure::Refused(Cause::BadSize));
     };
     Ok(PacketSpan {
         offset,
         bytes,
-        start_bit: heading.start,
+        start_bit: packet_head.start,
         content_bits,
-        stream: heading.stream,
+        stream: packet_head.stream,
         begin: below_64(value_named(table, b"timestamp_begin", context)).unwrap_or(0),
         cpu: below_32(value_named(table, b"cpu_id", context)).unwrap_or(0),
         seq: counter_in(table, number_named(table, b"packet_seq_num", context)),

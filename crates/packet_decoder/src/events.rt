@@ -2,10 +2,10 @@
 ghost use Rattle.std.specs.Prelude.{◌≡◌, ◌≤◌, ◌<◌, ◌^◌, ◌++◌, IfOk, OnOk, IfSome, [], ◌∷◌};
 ghost use Rattle.std.specs.Option.{option_copied};
 ghost use Rattle.packet_decoder.specs.Events.{cleared, event, event_body, event_fields, event_by, event_head, field_or_none, scope_at, with_event_header};
-ghost use Rattle.packet_decoder.specs.Headings.{Answers};
+ghost use Rattle.packet_decoder.specs.PacketHeads.{Answers};
 
 use crate::failure::Failure;
-use crate::times::{Stamp, stamp_in, timed};
+use crate::times::{Timestamp, time_after, timestamp_in};
 use crate::values::id_in;
 use ctf_fields::{
     BitSpan, Field, FieldError, RawEvent, Scopes, Scratch, last_and_first, number_of,
@@ -45,7 +45,7 @@ pub struct Cursor {
     pub at: u64,
 }
 
-/// An event's header, the first bit behind it, the event's place among those that are declared, the types of its
+/// An event's header, the first bit after it, the event's place among those that are declared, the types of its
 /// scopes, and its timestamp.
 #[derive(Debug, Drop)]
 pub struct EventHead {
@@ -53,10 +53,10 @@ pub struct EventHead {
     pub at: u64,
     pub event: u32,
     pub parts: EventParts,
-    pub stamp: Option<Stamp>,
+    pub timestamp: Option<Timestamp>,
 }
 
-// The field of a scope, and the place behind it.
+// The field of a scope, and the place after it.
 fn scope_at(
     alloc: Global,
     packet: &Packet<'_>,
@@ -102,7 +102,7 @@ fn event_head(
     requires { at ≤ 2 ^ 63 }
     ensures answers { Answers (event_head packet.now scopes.now at) result }
     ensures forward { IfOk result (λ h. (at ≤ h.at) × (h.at ≤ 2 ^ 63)) }
-    ensures stamp { IfOk result (λ h. IfSome h.stamp (λ s. (1 ≤ s.size) × (s.size ≤ 64))) }
+    ensures timestamp { IfOk result (λ h. IfSome h.timestamp (λ s. (1 ≤ s.size) × (s.size ≤ 64))) }
 {
     let (header, at) = scope_at(
         alloc,
@@ -115,7 +115,7 @@ fn event_head(
     let table = packet.meta.table();
     let named = last_and_first(table, b"id", b"timestamp", header.as_ref());
     let id = id_in(number_of(named.last));
-    let stamp = stamp_in(table, number_of(named.first));
+    let timestamp = timestamp_in(table, number_of(named.first));
     let Some((event, parts)) = event_by(packet.meta, packet.stream, id) else {
         return Err(Failure::Refused(Cause::UnknownEvent));
     };
@@ -124,11 +124,11 @@ fn event_head(
         at,
         event,
         parts,
-        stamp,
+        timestamp,
     })
 }
 
-// The event's fields, behind its context.
+// The event's fields, after its context.
 #[tactic(auto, unfolding(crate::specs::Events::event_fields))]
 fn event_fields(
     alloc: Global,
@@ -148,7 +148,7 @@ fn event_fields(
     scope_at(alloc, packet, scopes, scratch, parts.fields, at)
 }
 
-// What stands behind an event's header: the stream's context for events, and the event's own.
+// What stands after an event's header: the stream's context for events, and the event's own.
 #[tactic(auto, unfolding(crate::specs::Events::event_body))]
 fn event_body(
     alloc: Global,
@@ -196,7 +196,7 @@ fn field_or_none(alloc: Global, field: Option<Field>) -> Field
     }
 }
 
-/// The event at a place, and what stands behind it.
+/// The event at a place, and what stands after it.
 #[tactic(auto, unfolding(crate::specs::Events::event))]
 pub fn read_event(
     alloc: Global,
@@ -217,7 +217,7 @@ pub fn read_event(
     if at == cursor.at {
         return Err(Failure::Refused(Cause::NoBits));
     }
-    let (clock, time) = timed(packet.meta, head.stamp, cursor.clock)?;
+    let (clock, time) = time_after(packet.meta, head.timestamp, cursor.clock)?;
     let event = RawEvent {
         time,
         cpu: packet.cpu,

@@ -5,7 +5,7 @@ mod cutting;
 mod decoding;
 mod events;
 mod failure;
-mod heading;
+mod packet_head;
 mod piece;
 mod reader;
 mod times;

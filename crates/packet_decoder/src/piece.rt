@@ -3,14 +3,14 @@ use ctf_fields::RawEvent;
 use sqlite_items::Items;
 use trace_types::Cause;
 
-/// A count of `size` bits, which begins again from 0 behind its greatest value.
+/// A count of `size` bits, which begins again from 0 after its greatest value.
 #[derive(Clone, Copy, Debug, PartialEq, Eq)]
 pub struct Counter {
     pub value: u64,
     pub size: u32,
 }
 
-/// A packet: its place and length in bytes, the first bit of its events and the bit behind its content, counted
+/// A packet: its place and length in bytes, the first bit of its events and the bit after its content, counted
 /// from its first bit, its stream's id, the processor that wrote it, and the clock's value where it begins. `seq` is
 /// its number among the stream's packets, and `discarded` the count of the events that the tracer lost before it ended.
 #[derive(Clone, Copy, Debug, PartialEq, Eq)]

@@ -10,7 +10,7 @@ ghost use Rattle.trace_types.specs.declared.cause.Cause.{Cause};
 use crate::cutting::bytes_from;
 use crate::events::{Cursor, Packet, read_event};
 use crate::failure::Failure;
-use crate::heading::read_heading;
+use crate::packet_head::read_packet_head;
 use crate::piece::PacketSpan;
 use ctf_fields::{BitSpan, Field, RawEvent, Scopes, Scratch};
 use std::alloc::Global;
@@ -59,7 +59,7 @@ impl<'a> EventReader<'a> {
         ensures refused { (cause : Cause) → result ≡ Err (failure.Refused cause) → decoded meta.now file.now span.now ≡ packet.Refused cause }
     {
         let rest = bytes_from(file, span.offset);
-        let heading = read_heading(alloc, meta, rest)?;
+        let packet_head = read_packet_head(alloc, meta, rest)?;
         Ok(EventReader {
             packet: Packet {
                 meta,
@@ -67,11 +67,11 @@ impl<'a> EventReader<'a> {
                     bytes: rest,
                     end: span.content_bits,
                 },
-                stream: heading.stream,
-                parts: heading.parts,
+                stream: packet_head.stream,
+                parts: packet_head.parts,
                 cpu: span.cpu,
             },
-            scopes: heading.scopes,
+            scopes: packet_head.scopes,
             scratch: Scratch::new(alloc),
             cursor: Cursor {
                 clock: span.begin,
@@ -81,7 +81,7 @@ impl<'a> EventReader<'a> {
         })
     }
 
-    /// The next event, and none behind the last.
+    /// The next event, and none after the last.
     pub fn next_event(&mut self, alloc: Global) -> Result<Option<RawEvent>, Failure>
         ensures none { IfOk result (λ next. IfNone next (events_left self.old ≡ Ok [])) }
         ensures some { IfOk result (λ next. IfSome next (λ raw. events_left self.old ≡ and_before raw (events_left self.new))) }

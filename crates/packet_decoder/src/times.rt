@@ -1,7 +1,7 @@
 //! Clock values and times.
 ghost use Rattle.std.specs.Prelude.{◌≡◌, ◌≤◌, IfSome};
-ghost use Rattle.packet_decoder.specs.Times.{advanced, clock_of, in_range, only_rate, rate_of, stamp_in, time_of, timed};
-ghost use Rattle.type_table.specs.ToldKept.{IsRate};
+ghost use Rattle.packet_decoder.specs.Times.{clock_after, clock_of, in_range, only_rate, rate_of, timestamp_in, time_of, time_after};
+ghost use Rattle.type_table.specs.TraceMetas.{IsRate};
 
 use ctf_fields::{below_64, integer_type};
 use trace_types::Cause;
@@ -15,21 +15,21 @@ const LAST_TIME: i128 = 0x3FFF_FFFF_FFFF_FFFF;
 
 /// The timestamp of an event's header, of `size` bits from 1 to 64, and the place of the clock that its type names.
 #[derive(Clone, Copy, Debug, PartialEq, Eq)]
-pub struct Stamp {
+pub struct Timestamp {
     pub value: u64,
     pub size: u32,
     pub clock: Option<u32>,
 }
 
 /// The timestamp that a number is, with the place of its type.
-pub fn stamp_in(table: &Table, number: Option<(i128, u32)>) -> Option<Stamp>
-    ensures is { result ≡ stamp_in table.now number }
+pub fn timestamp_in(table: &Table, number: Option<(i128, u32)>) -> Option<Timestamp>
+    ensures is { result ≡ timestamp_in table.now number }
     ensures sized { IfSome result (λ s. (1 ≤ s.size) × (s.size ≤ 64)) }
 {
     let (value, ty) = number?;
     let integer = integer_type(table, ty)?;
     let value = below_64(Some(value))?;
-    Some(Stamp {
+    Some(Timestamp {
         value,
         size: integer.size,
         clock: integer.clock,
@@ -37,34 +37,38 @@ pub fn stamp_in(table: &Table, number: Option<(i128, u32)>) -> Option<Stamp>
 }
 
 /// The clock's value after a timestamp, and the time then, in ns.
-#[tactic(auto, unfolding(crate::specs::Times::timed))]
-pub fn timed(meta: &TraceMeta, stamp: Option<Stamp>, clock: u64) -> Result<(u64, u64), Cause>
-    requires { IfSome stamp (λ s. (1 ≤ s.size) × (s.size ≤ 64)) }
-    ensures { result ≡ timed meta.now stamp clock }
+#[tactic(auto, unfolding(crate::specs::Times::time_after))]
+pub fn time_after(
+    meta: &TraceMeta,
+    timestamp: Option<Timestamp>,
+    clock: u64,
+) -> Result<(u64, u64), Cause>
+    requires { IfSome timestamp (λ s. (1 ≤ s.size) × (s.size ≤ 64)) }
+    ensures { result ≡ time_after meta.now timestamp clock }
 {
-    let value = advanced(clock, stamp)?;
-    let time = in_range(time_of(rate_of(meta, stamp), value))?;
+    let value = clock_after(clock, timestamp)?;
+    let time = in_range(time_of(rate_of(meta, timestamp), value))?;
     Ok((value, time))
 }
 
 // The clock's value after a timestamp.
-fn advanced(clock: u64, stamp: Option<Stamp>) -> Result<u64, Cause>
-    requires { IfSome stamp (λ s. (1 ≤ s.size) × (s.size ≤ 64)) }
-    ensures { result ≡ advanced clock stamp }
+fn clock_after(clock: u64, timestamp: Option<Timestamp>) -> Result<u64, Cause>
+    requires { IfSome timestamp (λ s. (1 ≤ s.size) × (s.size ≤ 64)) }
+    ensures { result ≡ clock_after clock timestamp }
 {
-    let Some(stamp) = stamp else {
+    let Some(timestamp) = timestamp else {
         return Ok(clock);
     };
-    if stamp.size >= 64 {
-        if stamp.value < clock {
+    if timestamp.size >= 64 {
+        if timestamp.value < clock {
             return Err(Cause::TimeBack);
         }
-        return Ok(stamp.value);
+        return Ok(timestamp.value);
     }
-    let span = 1u64 << stamp.size;
+    let span = 1u64 << timestamp.size;
     let low = clock % span;
-    let carry = if stamp.value < low { span } else { 0 };
-    let next = u128::from(clock - low) + u128::from(stamp.value) + u128::from(carry);
+    let carry = if timestamp.value < low { span } else { 0 };
+    let next = u128::from(clock - low) + u128::from(timestamp.value) + u128::from(carry);
     if next > u128::from(u64::MAX) {
         return Err(Cause::TimeRange);
     }
@@ -72,16 +76,16 @@ fn advanced(clock: u64, stamp: Option<Stamp>) -> Result<u64, Cause>
 }
 
 // How the clock counts that a timestamp's type names, and else the only one that is declared.
-fn rate_of(meta: &TraceMeta, stamp: Option<Stamp>) -> ClockRate
-    ensures is { result ≡ rate_of meta.now (clock_of stamp) }
+fn rate_of(meta: &TraceMeta, timestamp: Option<Timestamp>) -> ClockRate
+    ensures is { result ≡ rate_of meta.now (clock_of timestamp) }
     ensures rate { IsRate result }
 {
     if let Some(
-        Stamp {
+        Timestamp {
             clock: Some(place),
             ..
         },
-    ) = stamp
+    ) = timestamp
     {
         if let Some(rate) = meta.clock(place) {
             return rate;

@@ -3,7 +3,7 @@ ghost use Rattle.std.specs.Prelude.{◌≡◌, Some};
 ghost use Rattle.std.specs.Option.{option_copied};
 ghost use Rattle.ctf_fields.specs.Fields.{number_of};
 ghost use Rattle.ctf_fields.specs.Values.{below_if_any};
-ghost use Rattle.packet_decoder.specs.Values.{are_bytes, counter_in, id_fits, id_in, is_byte, magic_fits};
+ghost use Rattle.packet_decoder.specs.Values.{are_bytes, counter_in, uuid_matches, id_in, is_byte, magic_matches};
 
 use crate::piece::Counter;
 use ctf_fields::{Field, below, below_64, integer_type};
@@ -17,8 +17,8 @@ pub fn below_32(value: Option<i128>) -> Option<u32>
 }
 
 /// Whether the field is the magic number, where it is an integer; a field of another form counts as missing.
-pub fn magic_fits(field: Option<&Field>) -> bool
-    ensures { result ≡ magic_fits (option_copied field.entry) }
+pub fn magic_matches(field: Option<&Field>) -> bool
+    ensures { result ≡ magic_matches (option_copied field.entry) }
 {
     match field {
         Some(Field::Int { value, .. }) => *value == 0xC1FC_1FC1,
@@ -27,8 +27,8 @@ pub fn magic_fits(field: Option<&Field>) -> bool
 }
 
 /// Whether the field is the trace's id, where both are there.
-pub fn id_fits(uuid: Option<[u8; 16]>, field: Option<&Field>) -> bool
-    ensures { result ≡ id_fits uuid (option_copied field.entry) }
+pub fn uuid_matches(uuid: Option<[u8; 16]>, field: Option<&Field>) -> bool
+    ensures { result ≡ uuid_matches uuid (option_copied field.entry) }
 {
     match (uuid, field) {
         (Some(uuid), Some(Field::List { items, .. })) if items.len() == 16 => {
@@ -59,7 +59,7 @@ fn is_byte(byte: u8, field: &Field) -> bool
     }
 }
 
-/// An id, 0 where none is told.
+/// An id, 0 where none is declared.
 pub fn id_in(number: Option<(i128, u32)>) -> Option<u64>
     ensures { result ≡ id_in number }
 {

@@ -9,7 +9,7 @@ pub cut_here : (rest : List ℕ) → 0 < length rest → starts_with nat_eq rest
 cut_here [] some is = absurd (omega (arith, some))
 cut_here (b ∷ bs) some is = ap (λ c. if c then drop 14 (b ∷ bs) else b ∷ call_name bs) is
 
--- the rest behind the bytes is the end of the name
+-- the rest after the bytes is the end of the name
 pub ended : (name kept rest new : List ℕ) → kept ++ call_name rest ≡ call_name name → 1 ≤ length rest → starts_with nat_eq rest entry ≡ true → new ≡ kept ++ take (length rest - 14) (drop 14 rest) → new ≡ call_name name
 ended name kept rest new h some is e =
     let all : take (length rest - 14) (drop 14 rest) ≡ drop 14 rest = take_all (length rest - 14) (drop 14 rest) (omega (arith, length-drop 14 rest)) in

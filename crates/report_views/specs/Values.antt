@@ -8,16 +8,17 @@ use Rattle.event_list.specs.Lines.{name_at}
 use Rattle.trace_types.specs.declared.path.Path.{Path as AttributePath}
 use Rattle.trace_types.specs.declared.path.Path.TheVariants as path
 use Rattle.trace_types.specs.declared.path.ThreadLeaf.TheVariants as thread_leaf
+use Rattle.trace_types.specs.declared.thread_status.TheConstants as status
 use Rattle.trace_types.specs.declared.value.Value.{Value}
 use Rattle.trace_types.specs.declared.value.Value.TheVariants.{Null, Int, Comm, Call}
 
 -- a number on a Status path is one of four words; on another path it is a number
 abbrev pub status_text : ℤ → List ℕ
 status_text z =
-    if int_eq z (pos 1) then codes "status running"
-    else if int_eq z (pos 2) then codes "status ready"
-    else if int_eq z (pos 3) then codes "status blocked"
-    else if int_eq z (pos 4) then codes "status ended"
+    if int_eq z status.RUNNING then codes "status running"
+    else if int_eq z status.READY then codes "status ready"
+    else if int_eq z status.BLOCKED then codes "status blocked"
+    else if int_eq z status.ENDED then codes "status ended"
     else codes "int " ++ signed_decimal z
 
 abbrev pub int_text : AttributePath → ℤ → List ℕ

@@ -14,7 +14,7 @@ use std::alloc::Global;
 use std::io::Write;
 use trace_types::OutOfMemory;
 
-/// The answers to questions about any path, a line each, in their order. The only error is want of memory.
+/// The answers to questions about any path, a line each, in their order. The only error is lack of memory.
 pub fn answers_text(
     alloc: Global,
     trace: &MergedTrace,

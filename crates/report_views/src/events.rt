@@ -12,7 +12,7 @@ const FIRST_LINE: &[u8] = b"hosttrace events 1\n";
 // For how many bytes of each line room is made at once. A line of a kernel event takes some 70.
 const LINE_SIZE: usize = 80;
 
-/// The list of all events. The only error is want of memory.
+/// The list of all events. The only error is lack of memory.
 pub fn events_text(alloc: Global, trace: &MergedTrace) -> Result<Vec<u8>, OutOfMemory>
     ensures text { IfOk result (λ text. text.items ≡ lines_of (names_at trace.now.names.items) trace.now.events.items) }
     ensures bytes { IfOk result (λ text. SpellBytes (names_at trace.now.names.items) trace.now.events.items) }

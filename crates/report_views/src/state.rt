@@ -14,7 +14,7 @@ use std::alloc::Global;
 use std::io::Write;
 use trace_types::{OutOfMemory, Value};
 
-/// The text of the state at an instant. The only error is want of memory.
+/// The text of the state at an instant. The only error is lack of memory.
 pub fn state_text(alloc: Global, trace: &MergedTrace, at: u64) -> Result<Vec<u8>, OutOfMemory>
     requires { RiseFrom 0 trace.now.events.items }
     ensures { IfOk result (λ text. IsStateText (names_at trace.now.names.items) (state_at trace.now.events.items at) text.items) }

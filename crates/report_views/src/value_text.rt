@@ -8,7 +8,7 @@ use crate::call_name::call_name;
 use event_list::NameList;
 use std::alloc::Global;
 use std::io::Write;
-use trace_types::{OutOfMemory, Path, ThreadLeaf, Value, write_byte_text};
+use trace_types::{OutOfMemory, Path, ThreadLeaf, Value, thread_status, write_byte_text};
 
 /// Appends a path's value: its kind and itself. A call has its name, among those of the path's host in `names`.
 pub fn write_value(
@@ -69,10 +69,10 @@ fn write_number(path: Path, number: i64, out: &mut Vec<u8>) -> Result<(), OutOfM
         }
     );
     match number {
-        1 if is_status => append(b"status running", out),
-        2 if is_status => append(b"status ready", out),
-        3 if is_status => append(b"status blocked", out),
-        4 if is_status => append(b"status ended", out),
+        thread_status::RUNNING if is_status => append(b"status running", out),
+        thread_status::READY if is_status => append(b"status ready", out),
+        thread_status::BLOCKED if is_status => append(b"status blocked", out),
+        thread_status::ENDED if is_status => append(b"status ended", out),
         _ => write!(out, "int {number}").map_err(|_| OutOfMemory),
     }
 }

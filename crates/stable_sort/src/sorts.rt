@@ -5,7 +5,7 @@ ghost use Rattle.stable_sort.specs.Sorted.{sorted};
 use std::alloc::Global;
 use trace_types::{Event, Merged, OutOfMemory};
 
-/// Sorts events by their own times. Events of one time keep their order. The only error is want of memory.
+/// Sorts events by their own times. Events of one time keep their order. The only error is lack of memory.
 pub fn sort_by_time(alloc: Global, events: &mut [Event]) -> Result<(), OutOfMemory>
     ensures ok { OnOk result (events.new ≡ sorted (λ e. e.time) events.old) }
     ensures err { OnErr result (events.new ≡ events.old) }
@@ -14,7 +14,7 @@ pub fn sort_by_time(alloc: Global, events: &mut [Event]) -> Result<(), OutOfMemo
     Ok(())
 }
 
-/// Sorts merged events by their keys. Events of one key keep their order. The only error is want of memory.
+/// Sorts merged events by their keys. Events of one key keep their order. The only error is lack of memory.
 pub fn sort_merged(alloc: Global, events: &mut [Merged]) -> Result<(), OutOfMemory>
     ensures ok { OnOk result (events.new ≡ sorted (λ m. m.key) events.old) }
     ensures err { OnErr result (events.new ≡ events.old) }

@@ -11,7 +11,7 @@ use Rattle.tsdl_parser.proofs.Reading as parser
 use Rattle.tsdl_parser.specs.Declarations.{IsParsed, IsRefused as IsItemRefused}
 use Rattle.tsdl_parser.specs.Depth.{IsTooDeep}
 use Rattle.tsdl_parser.specs.declared.tree.Decl.{Decl}
-use Rattle.known_types.specs.Traces.{Trace}
+use Rattle.type_scope.specs.Traces.{Trace}
 use Rattle.tsdl_types.specs.Items.{Declared, Breaks, resolved}
 use Rattle.trace_metadata.specs.Files.{HasTokens, HasDecls, IsRefused}
 use Rattle.trace_metadata.specs.declared.cause.MetaCause.{MetaCause}

@@ -1,6 +1,6 @@
 -- A file declares at most one trace, and where it declares one it is refused nowhere.
 use Rattle.std.proofs.Common.{◌≡◌, ◌∙◌, ℕ, List, sym, ap, subst}
-use Rattle.known_types.specs.Traces.{Trace}
+use Rattle.type_scope.specs.Traces.{Trace}
 use Rattle.meta_packets.proofs.OneText as packets
 use Rattle.tsdl_lex.proofs.Pieces as lex
 use Rattle.tsdl_lex.specs.Tokens.{IsTokens}

@@ -1,6 +1,6 @@
 -- What a metadata file declares, or the first place where it is refused (CTF 1.8, section 7): its packets' text, the text's tokens, their declarations, and what those say.
 use Rattle.std.specs.Prelude.{◌≡◌, ℕ, List, Result, Ok, Err}
-use Rattle.known_types.specs.Traces.{Trace}
+use Rattle.type_scope.specs.Traces.{Trace}
 use Rattle.meta_packets.specs.Packets as packets
 use Rattle.trace_types.specs.declared.byte_order.ByteOrderKind.{ByteOrderKind}
 use Rattle.tsdl_lex.specs.Tokens as lex

@@ -10,7 +10,7 @@ pub enum MetaCause {
     Packet { offset: u64, cause: MetaPacketCause },
     /// At this byte of the text, from 0, no token begins.
     Byte { at: u64 },
-    /// Behind this token, from 1, more braces are open than may be.
+    /// After this token, from 1, more braces are open than may be.
     Token { token: u64 },
     /// Where this item, from 1, would begin, none does.
     Syntax { item: u64 },

@@ -1,6 +1,6 @@
 //! What holds of all metadata files.
 ghost use Rattle.std.specs.Prelude.{◌≡◌, ℕ, List};
-ghost use Rattle.known_types.specs.Traces.{Trace};
+ghost use Rattle.type_scope.specs.Traces.{Trace};
 ghost use Rattle.trace_metadata.specs.Files.{IsTrace, IsRefused};
 ghost use Rattle.trace_metadata.specs.declared.cause.MetaCause.{MetaCause};
 

@@ -1,8 +1,8 @@
 //! Reading the metadata file of a trace.
 ghost use Rattle.std.specs.Prelude.{IfOk};
-ghost use Rattle.known_types.specs.Traces.{trace};
+ghost use Rattle.type_scope.specs.Traces.{trace};
 ghost use Rattle.meta_packets.specs.Packets.{IsText};
-ghost use Rattle.type_table.specs.ToldKept.{IsSoundMeta};
+ghost use Rattle.type_table.specs.TraceMetas.{IsSoundMeta};
 ghost use Rattle.trace_metadata.specs.Files.{HasTokens, HasDecls, IsTrace, IsRefused, OnRefusal};
 
 use crate::cause::MetaCause;
@@ -15,7 +15,7 @@ use tsdl_parser::{Decl, ParseError, parse};
 use tsdl_types::{MetaError, resolve};
 use type_table::TraceMeta;
 
-/// Why a metadata file declares no trace: the first place where it is refused, or want of memory.
+/// Why a metadata file declares no trace: the first place where it is refused, or lack of memory.
 #[derive(Clone, Copy, Debug, PartialEq, Eq)]
 pub enum MetadataError {
     Refused(MetaCause),

@@ -7,7 +7,7 @@ module _ {X : Type 0} where
   pub no_front : (old items new : List X) → new ≡ old → HasFront old items new
   no_front old items new e = record { front = []; rest = items; parts = refl; held = e ∙ sym (append-nil old) }
 
-  -- the first piece was to be appended, and more behind it
+  -- the first piece was to be appended, and more after it
   pub first_front : (old piece rest items new : List X) → HasFront old piece new → items ≡ piece ++ rest → HasFront old items new
   first_front old piece rest items new h e = record {
     front = h.front;

@@ -10,7 +10,7 @@ use Rattle.trace_types.specs.ByteTexts.{spelled, is_plain, hex_digit}
 use Rattle.trace_types.specs.Padding.{name_in, padded, IsPadded}
 use Rattle.trace_types.specs.Comms.{SpellsName}
 
--- what stands in a text: the bytes of a name so far, in an array with zeros behind, and the rest
+-- what stands in a text: the bytes of a name so far, in an array with zeros after it, and the rest
 pub record HasRead (text bytes : List ℕ) (len : ℕ) (rest : List ℕ) : Type 0 where
   pub spelling : text ≡ flat_map spelled (take len bytes) ++ rest
   pub padding : bytes ≡ take len bytes ++ replicate (16 - len) 0
@@ -72,7 +72,7 @@ not_spelled text bytes len rest has some none name s =
     by [] e fits = omega (arith, ap length e)
     by (b ∷ bs) e fits = none b _ fits.0 e
 
--- a zero byte, and a byte behind 15 others, are in no name
+-- a zero byte, and a byte after 15 others, are in no name
 pub refused_byte : (text bytes : List ℕ) (len : ℕ) (rest : List ℕ) (byte : ℕ) (after : List ℕ) → HasRead text bytes len rest → rest ≡ spelled byte ++ after → byte < 256 → (byte ≡ 0) ⊎ (len ≡ 15) → (name : List ℕ) → ¬ (SpellsName text name)
 refused_byte text bytes len rest byte after has is small bad name s =
     let t = tail_of (take len bytes) rest name has.small s.is_name.bytes (sym has.spelling ∙ s.spelling) in
@@ -167,7 +167,7 @@ front_length bs n len is e =
     let within : n ≤ length bs = subst (λ k. k ≤ length bs) (sym is) (prefix_len-le-length (λ b. nat_lt 0 b) bs) in
     (length-take-le len bs (omega (arith, e, within)), length-take-le len (replicate {A = ℕ} 16 0) (omega (arith, e)))
 
--- the front of a name, with zeros behind it
+-- the front of a name, with zeros after it
 pub cut_name : (bs name : List ℕ) (n len : ℕ) → n ≡ prefix_len (λ b. nat_lt 0 b) bs → len ≡ min n 15 → name ≡ take len bs → IsPadded (name ++ drop len (replicate 16 0)) × (name_in (name ++ drop len (replicate 16 0)) ≡ take 15 (name_in bs))
 cut_name bs name n len p e is =
     let within : n ≤ length bs = subst (λ k. k ≤ length bs) (sym p) (prefix_len-le-length (λ b. nat_lt 0 b) bs) in

@@ -5,5 +5,4 @@ pub mod Numbers
 pub mod Paths
 pub mod Same
 pub mod Order
-pub mod Limits
 pub mod Fronts

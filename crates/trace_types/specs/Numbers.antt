@@ -14,6 +14,6 @@ IsSigned text z = text ≡ signed_decimal z
 abbrev pub BeginsPlainly : List ℕ → Type 0
 BeginsPlainly ds = (slice_index ds 0 ≢ 43) × (slice_index ds 0 ≡ 48 → length ds ≡ 1)
 
--- the same of a number that may have a minus sign, behind which no zero stands
+-- the same of a number that may have a minus sign, after which no zero stands
 abbrev pub BeginsPlainlySigned : List ℕ → Type 0
 BeginsPlainlySigned text = (slice_index text 0 ≡ 45 → (slice_index text 1 ≢ 43) × (slice_index text 1 ≢ 48)) × (slice_index text 0 ≢ 45 → BeginsPlainly text)

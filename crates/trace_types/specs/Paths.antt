@@ -53,7 +53,7 @@ place_of (Cpu host cpu leaf) = host ∷ 0 ∷ cpu ∷ cpu_leaf_place leaf ∷ []
 place_of (Thread host (Idle cpu) leaf) = host ∷ 1 ∷ cpu ∷ thread_leaf_place leaf ∷ []
 place_of (Thread host (Tid tid) leaf) = host ∷ 2 ∷ tid ∷ thread_leaf_place leaf ∷ []
 
--- the words of a path, which slashes join behind an h
+-- the words of a path, which slashes join after an h
 abbrev pub path_words : AttributePath → List (List ℕ)
 path_words (Cpu host cpu leaf) = decimal host ∷ codes "Cpu" ∷ decimal cpu ∷ cpu_leaf_text leaf ∷ []
 path_words (Thread host thread leaf) = decimal host ∷ codes "Thread" ∷ thread_text thread ∷ thread_leaf_text leaf ∷ []

@@ -7,7 +7,7 @@ ghost use Rattle.trace_types.specs.ByteTexts.{IsByteText, SpellsBytes, byte_text
 use crate::{OutOfMemory, Text};
 use std::alloc::Global;
 
-/// Appends bytes as one word, which has no space and no line feed. The only error is want of memory,
+/// Appends bytes as one word, which has no space and no line feed. The only error is lack of memory,
 /// after which a front of the word may stand there.
 pub fn write_byte_text(bytes: &[u8], out: &mut Vec<u8>) -> Result<(), OutOfMemory>
     ensures ok { OnOk result (out.new.items ≡ out.old.items ++ byte_text bytes.now) }
@@ -111,7 +111,7 @@ pub(crate) fn read_byte(text: &[u8]) -> Option<(u8, &[u8])>
     }
 }
 
-/// Reads a word that spells bytes. `None` comes exactly where it spells none, and the only error is want of memory.
+/// Reads a word that spells bytes. `None` comes exactly where it spells none, and the only error is lack of memory.
 pub fn read_byte_text(alloc: Global, word: &[u8]) -> Result<Option<Text>, OutOfMemory>
     ensures found { IfOk result (λ read. IfSome read (λ text. IsByteText word.now text)) }
     ensures none { IfOk result (λ read. IfNone read ((bytes : List ℕ) → ¬ (IsByteText word.now bytes))) }

@@ -1,12 +1,6 @@
 //! Events of the kernel, as they are merged.
 use crate::{Comm, SegKey};
 
-/// Times and keys lie below this, in ns.
-pub const TIME_END: u64 = 0x4000_0000_0000_0000;
-
-/// The greatest number of events of a list, and of accepted events and marks of all hosts of a run.
-pub const MAX_EVENTS: u64 = 2_097_152;
-
 /// What the kernel did. Each variant has the fields that its tracepoint records.
 #[derive(Clone, Copy, Debug, PartialEq, Eq)]
 pub enum KernelEvent {

@@ -1,4 +1,4 @@
-//! The one answer for want of memory.
+//! The one answer for lack of memory.
 use std::alloc::{AllocError, AllocFailed};
 use std::error::Error;
 use std::fmt;

@@ -55,7 +55,7 @@ fn begins_plainly(digits: &[u8]) -> bool
     }
 }
 
-// The same of a number that may have a minus sign, behind which no zero stands.
+// The same of a number that may have a minus sign, after which no zero stands.
 fn begins_plainly_signed(text: &[u8]) -> bool
     ensures { IsTrue result ↔ BeginsPlainlySigned text.now }
 {

@@ -127,7 +127,7 @@ impl fmt::Display for Path {
     }
 }
 
-/// Appends the one spelling of a path. The only error is want of memory.
+/// Appends the one spelling of a path. The only error is lack of memory.
 pub fn write_path(alloc: Global, path: Path, out: &mut Vec<u8>) -> Result<(), OutOfMemory>
     ensures ok { OnOk result (out.new.items ≡ out.old.items ++ path_text path) }
     ensures err { OnErr result (out.new.items ≡ out.old.items) }

@@ -7,6 +7,7 @@ ghost use Rattle.trace_types.specs.declared.path.CpuLeaf.{CpuLeaf};
 ghost use Rattle.trace_types.specs.declared.path.ThreadLeaf.{ThreadLeaf};
 
 use crate::cut::cut_at;
+use crate::limits::MAX_HOSTS;
 use crate::number::read_number_below;
 use crate::path::{CpuLeaf, Path, ThreadKey, ThreadLeaf};
 
@@ -41,7 +42,7 @@ fn read_cpu_path(host: &[u8], cpu: &[u8], leaf: &[u8]) -> Option<Path>
     ensures found { IfSome result (λ p. ArePathWords (host.now ∷ codes "Cpu" ∷ cpu.now ∷ leaf.now ∷ []) p) }
     ensures none { IfNone result ((p : AttributePath) → ¬ (ArePathWords (host.now ∷ codes "Cpu" ∷ cpu.now ∷ leaf.now ∷ []) p)) }
 {
-    let host = read_number_below(host, 64)? as u32;
+    let host = read_number_below(host, MAX_HOSTS as u64)? as u32;
     let cpu = read_number_below(cpu, 1 << 32)? as u32;
     let leaf = read_cpu_leaf(leaf)?;
     Some(Path::Cpu { host, cpu, leaf })
@@ -51,7 +52,7 @@ fn read_thread_path(host: &[u8], thread: &[u8], leaf: &[u8]) -> Option<Path>
     ensures found { IfSome result (λ p. ArePathWords (host.now ∷ codes "Thread" ∷ thread.now ∷ leaf.now ∷ []) p) }
     ensures none { IfNone result ((p : AttributePath) → ¬ (ArePathWords (host.now ∷ codes "Thread" ∷ thread.now ∷ leaf.now ∷ []) p)) }
 {
-    let host = read_number_below(host, 64)? as u32;
+    let host = read_number_below(host, MAX_HOSTS as u64)? as u32;
     let thread = read_thread_key(thread)?;
     let leaf = read_thread_leaf(leaf)?;
     Some(Path::Thread { host, thread, leaf })

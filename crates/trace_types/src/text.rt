@@ -55,7 +55,7 @@ impl Hash for Text {
 }
 
 impl Text {
-    /// A text with these bytes. The only error is want of memory.
+    /// A text with these bytes. The only error is lack of memory.
     pub fn from_bytes(alloc: Global, bytes: &[u8]) -> Result<Text, OutOfMemory>
         ensures value { IfOk result (λ text. text ≡ bytes.now) }
     {

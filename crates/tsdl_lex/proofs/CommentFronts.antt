@@ -53,7 +53,7 @@ leaves_less (c ∷ d ∷ text) rest is = by (closes_here (c ∷ d ∷ text)) is 
     by true is more = let same : length text ≡ length rest = ap length (some_is is) in omega (arith, same)
     by false is more = let less = more is in omega (arith, less)
 
--- a front that holds the end of the comment, and what it holds behind it
+-- a front that holds the end of the comment, and what it holds after it
 pub closed : (text rest : List ℕ) (m : ℕ) → after_close text ≡ Some rest → length text ≤ m + length rest → after_close (take m text) ≡ Some (take (m + length rest - length text) rest)
 closed [] rest m is size = absurd (cc)
 closed (c ∷ []) rest m is size = absurd (let less = leaves_less (c ∷ []) rest is in omega (arith, less))
@@ -95,7 +95,7 @@ closes_two (a ∷ []) h = absurd (let e : (eqb 42 a && false) ≡ true = h in ne
     never false e = absurd (cc)
 closes_two (a ∷ b ∷ rest) h = omega arith
 
--- a closed comment behind the first slash, as the longest
+-- a closed comment after the first slash, as the longest
 pub block_comment : (body rest : List ℕ) (n : ℕ) → after_close body ≡ Some rest → length body ≡ n + length rest → IsLongest comment_of (42 ∷ body) (1 + n) tt
 block_comment body rest n is size = record { within = omega (arith, size); front = exact; longest = longer }
   where

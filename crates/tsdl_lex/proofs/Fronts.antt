@@ -65,7 +65,7 @@ module _ (passes : ℕ → Bool) where
       by true less rest = rest (omega arith)
       by false less rest = absurd (omega arith)
 
-  -- and behind it none does
+  -- and after it none does
   pub run_stops : (xs : List ℕ) (d : ℕ) → passes d ≡ false → passes (get_or xs (run xs) d) ≡ false
   run_stops [] d none = none
   run_stops (x ∷ xs) d none = by (passes x) refl (run_stops xs d none)

@@ -191,7 +191,7 @@ module _ (text : List ℕ) (digit : is_ascii_digit (get_or text 0 0) ≡ true) w
       by false p true q = absurd (let e = longer (suc m) (ltb-true n (suc m) q) within in cc)
       by false p false q = absurd (let same : suc m ≡ n = omega (arith, ltb-false (suc m) n p, ltb-false n (suc m) q) in let e = digit_front (suc m) (omega arith) ∙ ap (option_map (λ v. Token (Number v))) (ap (λ k. number_of (take k text)) same ∙ none) in cc)
 
--- what lies behind a first byte that tells the kind
+-- what lies after a first byte that tells the kind
 module _ {A : Type 0} (of : List ℕ → Option A) (f : A → Lexeme) (c : ℕ) (kind : (front : List ℕ) → lexeme_of (c ∷ front) ≡ option_map f (of front)) where
   pub behind : (text : List ℕ) (n : ℕ) (a : A) → IsLongest of text n a → IsLongest lexeme_of (c ∷ text) (1 + n) (f a)
   behind text n a is = record { within = let w = is.within in omega (arith, w); front = front; longest = longer }

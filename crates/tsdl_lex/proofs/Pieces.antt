@@ -1,4 +1,4 @@
--- Pieces one behind the other.
+-- Pieces one after the other.
 use Rattle.std.proofs.Common.{◌≡◌, ℕ, zero, suc, ◌+◌, ◌-◌, ◌<◌, ◌≤◌, List, [], ◌∷◌, ◌++◌, length, take, drop, Some, refl, sym, ap, ◌∙◌, subst, arith, nat_lt, Bool, true, false}
 use Rattle.std.proofs.lemmas.Bool.{ltb-true, ltb-false}
 use Rattle.std.proofs.lemmas.List.{drop-drop, length-drop}
@@ -8,7 +8,7 @@ use Rattle.tsdl_lex.specs.declared.lexeme.Lexeme.TheVariants as lexeme
 use Rattle.tsdl_lex.specs.Lexemes.{lexeme_of, IsFirst, IsNone}
 use Rattle.tsdl_lex.specs.Tokens.{Piece, Leads, with_token, tokens_from, IsTokens, IsRefused, AreSlices}
 
--- where the piece behind these begins
+-- where the piece after these begins
 abbrev pub behind : ℕ → List Piece → ℕ
 behind start [] = start
 behind start (p ∷ pieces) = behind (start + p.len) pieces

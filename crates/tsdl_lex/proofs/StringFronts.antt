@@ -119,7 +119,7 @@ takes zero (c ∷ xs) v r is = by (c == 34) (c == 10) (c == 92) is (λ v'. takes
     by false false true is plain more = escaped (escape xs) is more
     by false false false is plain more = let p = prepended c (content 0 xs) v r is in let less = plain p.0 p.1 in omega (arith, less)
 
--- an escape looks no further than at the byte behind it
+-- an escape looks no further than at the byte after it
 abbrev length_of : Option (ℕ × ℕ) → ℕ
 length_of None = 0
 length_of (Some e) = e.1

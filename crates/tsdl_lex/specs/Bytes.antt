@@ -6,7 +6,7 @@ use Rattle.std.specs.Char.{is_ascii_alphabetic, is_ascii_digit}
 abbrev pub is_letter : ℕ → Bool
 is_letter c = is_ascii_alphabetic c || c == 95
 
--- a byte of a word behind its first
+-- a byte of a word after its first
 abbrev pub is_word_byte : ℕ → Bool
 is_word_byte c = is_letter c || is_ascii_digit c
 

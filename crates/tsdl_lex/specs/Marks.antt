@@ -41,7 +41,7 @@ after_close (c ∷ rest) = if starts_with nat_eq (c ∷ rest) (42 ∷ 47 ∷ [])
 abbrev pub is_in_line : ℕ → Bool
 is_in_line c = not (c == 10)
 
--- a whole text behind its first slash is a comment: a star and all up to the next `*/`, or a slash and no line feed
+-- a whole text after its first slash is a comment: a star and all up to the next `*/`, or a slash and no line feed
 abbrev pub comment_of : List ℕ → Option (Unit {0})
 comment_of [] = None
 comment_of (c ∷ rest) =

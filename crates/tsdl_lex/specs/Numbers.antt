@@ -24,7 +24,7 @@ spelled_by base digits = if nat_lt 0 (length digits) && nat_lt (digits_value bas
 abbrev pub in_base : ℕ → List ℕ → Option ℕ
 in_base base text = if is_suffix (drop (digits_of base text) text) then spelled_by base (take (digits_of base text) text) else None
 
--- the number that a whole text spells: hexadecimal behind `0x`, octal where it begins with 0, else decimal
+-- the number that a whole text spells: hexadecimal after `0x`, octal where it begins with 0, else decimal
 abbrev pub number_of : List ℕ → Option ℕ
 number_of text =
     if get_or text 0 0 == 48

@@ -3,7 +3,7 @@ use Rattle.std.specs.Prelude.{ℕ, ◌+◌, ◌*◌, ◌==◌, ◌&&◌, nat_lt,
 use Rattle.std.specs.Char.{digit_value, is_digit}
 use Rattle.tsdl_lex.specs.Longest.{at_end}
 
--- the byte that a letter behind a backslash stands for: a quote, a backslash, an apostrophe or a question mark itself, or a control character
+-- the byte that a letter after a backslash stands for: a quote, a backslash, an apostrophe or a question mark itself, or a control character
 abbrev pub simple_escape : ℕ → Option ℕ
 simple_escape c =
     if c == 34 then Some 34
@@ -19,7 +19,7 @@ simple_escape c =
     else if c == 118 then Some 11
     else None
 
--- hexadecimal digits behind `\x`: two, or one where no second follows
+-- hexadecimal digits after `\x`: two, or one where no second follows
 abbrev pub hex_second : ℕ → List ℕ → ℕ × ℕ
 hex_second n [] = (n, 2)
 hex_second n (d ∷ rest) = if is_digit d 16 then (16 * n + digit_value d, 3) else (n, 2)
@@ -28,7 +28,7 @@ abbrev pub hex_escape : List ℕ → Option (ℕ × ℕ)
 hex_escape [] = None
 hex_escape (d ∷ rest) = if is_digit d 16 then Some (hex_second (digit_value d) rest) else None
 
--- octal digits behind the backslash: up to three, as many as there are while the value stays below 256
+-- octal digits after the backslash: up to three, as many as there are while the value stays below 256
 abbrev pub octal_third : ℕ → List ℕ → ℕ × ℕ
 octal_third n [] = (n, 2)
 octal_third n (d ∷ rest) = if is_digit d 8 && nat_lt (8 * n + digit_value d) 256 then (8 * n + digit_value d, 3) else (n, 2)
@@ -37,7 +37,7 @@ abbrev pub octal_second : ℕ → List ℕ → ℕ × ℕ
 octal_second n [] = (n, 1)
 octal_second n (d ∷ rest) = if is_digit d 8 then octal_third (8 * n + digit_value d) rest else (n, 1)
 
--- what the text behind a backslash begins with: the byte that it stands for, and how many bytes it takes
+-- what the text after a backslash begins with: the byte that it stands for, and how many bytes it takes
 abbrev pub escape : List ℕ → Option (ℕ × ℕ)
 escape [] = None
 escape (c ∷ rest) =
@@ -49,7 +49,7 @@ escape (c ∷ rest) =
 abbrev pub prepend : ℕ → Option (List ℕ × List ℕ) → Option (List ℕ × List ℕ)
 prepend b read = option_map (λ r. (b ∷ r.0, r.1)) read
 
--- The value of a string from behind its opening quote on, and what follows the closing one. The
+-- The value of a string from after its opening quote on, and what follows the closing one. The
 -- number says how many bytes of an escape are still passed over.
 unfoldable pub content : ℕ → List ℕ → Option (List ℕ × List ℕ)
 content skipped [] = None
@@ -60,6 +60,6 @@ content zero (c ∷ rest) =
     else if c == 92 then option_and_then (λ e. prepend e.0 (content e.1 rest)) (escape rest)
     else prepend c (content zero rest)
 
--- the value of a whole string, from behind its opening quote on
+-- the value of a whole string, from after its opening quote on
 abbrev pub string_of : List ℕ → Option (List ℕ)
 string_of text = option_and_then (λ r. at_end r.0 r.1) (content 0 text)

@@ -31,7 +31,7 @@ pub record IsTokens (text : List ℕ) (tokens : List Token) : Type 0 where
   pub leads : Leads text pieces []
   pub tokens_are : tokens ≡ tokens_from 0 pieces
 
--- behind pieces, at this byte, no token, comment or space begins
+-- after pieces, at this byte, no token, comment or space begins
 pub record IsRefused (text : List ℕ) (at : ℕ) : Type 0 where
   pub pieces : List Piece
   pub rest : List ℕ
@@ -40,7 +40,7 @@ pub record IsRefused (text : List ℕ) (at : ℕ) : Type 0 where
   pub none : IsNone rest
   pub place : at + length rest ≡ length text
 
--- tokens lie in the text one behind the other, from this byte on, and each is what its slice spells
+-- tokens lie in the text one after the other, from this byte on, and each is what its slice spells
 abbrev pub AreSlices : List ℕ → ℕ → List Token → Type 0
 AreSlices text from [] = from ≤ length text
 AreSlices text from (t ∷ tokens) = (from ≤ t.start) × (t.start < t.end) × (lexeme_of (take (t.end - t.start) (drop t.start text)) ≡ Some (lexeme.Token t.kind)) × AreSlices text t.end tokens

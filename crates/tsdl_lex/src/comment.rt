@@ -4,7 +4,7 @@ ghost use Rattle.std.specs.List.{position_or_len};
 ghost use Rattle.tsdl_lex.specs.Longest.{IsLongest, IsNowhere};
 ghost use Rattle.tsdl_lex.specs.Marks.{after_close, is_in_line, comment_of};
 
-/// The length of the comment that a text behind its first slash begins with.
+/// The length of the comment that a text after its first slash begins with.
 pub fn comment_len(text: &[u8]) -> Option<usize>
     ensures { MatchOption result (IsNowhere comment_of text.now) (λ len. IsLongest comment_of text.now len tt) }
 {
@@ -15,7 +15,7 @@ pub fn comment_len(text: &[u8]) -> Option<usize>
     }
 }
 
-// How many bytes there are up to behind the next `*/`.
+// How many bytes there are up to after the next `*/`.
 fn closed_len(body: &[u8]) -> Option<usize>
     ensures within { IfSome result (λ len. len ≤ length body.now) }
     ensures len { MatchOption result (after_close body.now ≡ None) (λ len. after_close body.now ≡ Some (drop len body.now)) }

@@ -16,7 +16,7 @@ pub fn number_of(text: &[u8]) -> Option<u64>
     }
 }
 
-// The number that digits of a base spell, behind which a suffix may stand.
+// The number that digits of a base spell, after which a suffix may stand.
 fn in_base(base: u32, text: &[u8]) -> Option<u64>
     requires { (2 ≤ base) × (base ≤ 16) }
     ensures { result ≡ in_base base text.now }

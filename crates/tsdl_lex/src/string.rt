@@ -7,7 +7,7 @@ ghost use Rattle.tsdl_lex.specs.Strings.{simple_escape, hex_second, hex_escape, 
 use std::alloc::Global;
 use trace_types::{OutOfMemory, Text};
 
-/// A string's value, and how many bytes it takes behind its opening quote, the closing one included.
+/// A string's value, and how many bytes it takes after its opening quote, the closing one included.
 pub fn string_at(alloc: Global, text: &[u8]) -> Result<Option<(Text, usize)>, OutOfMemory>
     ensures within { IfOk result (λ found. IfSome found (λ s. s.1 ≤ length text.now)) }
     ensures content { IfOk result (λ found. MatchOption found (content 0 text.now ≡ None) (λ s. content 0 text.now ≡ Some (s.0, drop s.1 text.now))) }
@@ -44,7 +44,7 @@ fn byte_at(text: &[u8]) -> Option<(u8, usize)>
     }
 }
 
-// The byte that an escape stands for, and how many bytes it takes behind the backslash.
+// The byte that an escape stands for, and how many bytes it takes after the backslash.
 fn escape(text: &[u8]) -> Option<(u8, usize)>
     ensures value { result ≡ escape text.now }
     ensures within { IfSome result (λ e. e.1 ≤ length text.now) }
@@ -118,7 +118,7 @@ fn octal_third(value: u8, digits: &[u8]) -> (u8, usize)
     (value, 2)
 }
 
-// The byte that a letter behind a backslash stands for.
+// The byte that a letter after a backslash stands for.
 fn simple_escape(byte: u8) -> Option<u8>
     ensures { result ≡ simple_escape byte }
 {

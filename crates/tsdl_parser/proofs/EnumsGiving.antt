@@ -102,7 +102,7 @@ labels_give ts (l ∷ ls) rest h =
     let all = labels_go_on l ls (length h.a) [] h.a h.part.0 h.b rest h.part.1 h.part.2 h.closes (omega arith) in
     first_of (search rules, grind (arith, common_steps))
 
--- a base that is words goes on with any name behind it
+-- a base that is words goes on with any name after it
 abbrev pub NamesEnd : Option EnumBase → Tokens → Type 0
 NamesEnd None rest = Unit {0}
 NamesEnd (Some (base.Integer xs)) rest = Unit {0}
@@ -137,13 +137,13 @@ pub name_if_any_gives : (ts : Tokens) (o : Option Text) (rest : Tokens) → Mayb
 name_if_any_gives ts None rest h none = unseen s.Name word ts (none refl) ∙ ap (λ r. gives None r) h
 name_if_any_gives ts (Some w) rest h none = seen s.Name word ts rest w (sees_it s.Name ts rest (name_stands ts rest w h)) (word_gives ts rest w h.word)
 
--- what may stand behind a type
+-- what may stand after a type
 pub record Ends (rest : Tokens) : Type 0 where
   pub no_brace : sees s.OpenBrace rest ≡ false
   pub no_colon : sees s.Colon rest ≡ false
   pub no_less : sees s.Less rest ≡ false
 
--- an enumeration without labels whose base is words goes on with any name behind it
+-- an enumeration without labels whose base is words goes on with any name after it
 abbrev pub EnumEnds : Option EnumBase → Option (List Label) → Tokens → Type 0
 EnumEnds of None rest = NamesEnd of rest
 EnumEnds of (Some ls) rest = Unit {0}

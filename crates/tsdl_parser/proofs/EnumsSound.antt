@@ -30,7 +30,7 @@ maybe_sound {A} P y p ts o rest sound e = by (sees y ts) refl e
 pub name_if_any_sound : (ts : Tokens) (o : Option Text) (rest : Tokens) → if_seen s.Name word ts ≡ gives o rest → Maybe IsName ts o rest
 name_if_any_sound ts o rest e = maybe_sound IsName s.Name word ts o rest (λ w is read. seen_name ts rest w is read) e
 
--- a symbol that was passed and a part behind it
+-- a symbol that was passed and a part after it
 pub behind_sound : {A : Type 0} (P : Part A) (y : Symbol) (ts : Tokens) (x : A) (rest : Tokens) → sameb the_type s.End y ≡ false → sees y ts ≡ true → P (drop 1 ts) x rest → Behind y P ts x rest
 behind_sound P y ts x rest apart is h = record { a = drop 1 ts; opens = sees_stands y ts is (no_end y apart); part = h }
 
@@ -75,7 +75,7 @@ label_sound ts l rest e =
           };
         })
 
--- labels that were read behind others, and the brace
+-- labels that were read after others, and the brace
 record LabelsRead (found : List Label) (ts : Tokens) (all : List Label) (rest : Tokens) : Type 0 where
   first : Label
   others : List Label

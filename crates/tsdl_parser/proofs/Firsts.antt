@@ -23,7 +23,7 @@ pub align_end : (ts : List Token) → slice_get ts 0 ≡ None → sees_align ts 
 align_end [] is = refl
 align_end (t ∷ ts) is = absurd (cc)
 
--- the last of words, behind others
+-- the last of words, after others
 pub last_is : (ws front : List (List ℕ)) (last : List ℕ) → ws ≡ front ++ last ∷ [] → (front ≡ [] → ⊥) → last_of ws ≡ Some (front, last)
 last_is ws [] last is some = absurd (some refl)
 last_is ws (w ∷ front) last is some = ap last_of is ∙ behind w front

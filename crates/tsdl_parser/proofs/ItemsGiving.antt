@@ -12,7 +12,7 @@ use Rattle.tsdl_parser.specs.declared.tree.BlockKind.TheVariants as block_of
 use Rattle.tsdl_parser.specs.declared.tree.Item.{Item}
 use Rattle.tsdl_parser.specs.declared.tree.Item.TheVariants as items
 use Rattle.tsdl_parser.specs.Parsers.{sees}
-use Rattle.tsdl_parser.specs.Reading.{MAX_DEPTH, fields, entry, entries, block, alias, item_by, declaration, item}
+use Rattle.tsdl_parser.specs.Reading.{MAX_BRACES, fields, entry, entries, block, alias, item_by, declaration, item}
 use Rattle.tsdl_parser.specs.Depth.{opened_by}
 use Rattle.tsdl_parser.specs.Grammar.{Tokens, Text, Stands, Part, Behind, Braced, IsAttr, IsFieldsWithin, IsDeclare, IsEntry, IsAlias, keyword_of, IsDeclaration, IsItemWith}
 use Rattle.tsdl_parser.proofs.Steps.{gives, head_is, sees_it, left_of, other, after_it, after_other, expect_gives}
@@ -26,7 +26,7 @@ module _ (depth : ℕ) where
   Inner = IsFieldsWithin depth
 
   -- fields are read where one brace is open, and where none is
-  module _ (n : ℕ) (more : (ts : Tokens) (fs : List FieldTree) (rest : Tokens) → Fits n ts → IsFieldsWithin depth ts fs rest → fields MAX_DEPTH ts ≡ gives fs rest) where
+  module _ (n : ℕ) (more : (ts : Tokens) (fs : List FieldTree) (rest : Tokens) → Fits n ts → IsFieldsWithin depth ts fs rest → fields MAX_BRACES ts ≡ gives fs rest) where
     declare_gives : (ts : Tokens) (ws : List Text) (t : TypeTree) (rest : Tokens) → Fits n ts → IsDeclare Inner ts ws t rest → entry ts ≡ gives (entry_as.Declare ws t) rest
     unfolding entry
     declare_gives ts ws t rest fits h =
@@ -37,7 +37,7 @@ module _ (depth : ℕ) where
         let declare = expect_gives s.Declare h.a h.type_is.a h.type_is.opens in
         let fits_a = (path_passes ts ws h.a h.path_is).fits n fits in
         let fits_b = (stands s.Declare h.a h.type_is.a (λ n. refl) h.type_is.opens).fits n fits_a in
-        let of = type_gives Inner (fields MAX_DEPTH) n (opens_brace depth) more (fields_pass depth) h.type_is.a t h.type_is.b fits_b h.type_is.part (behind_semicolon h.type_is.b rest h.type_is.closes) (other s.Semicolon s.Name refl h.type_is.b (head_is s.Semicolon h.type_is.b rest h.type_is.closes)) in
+        let of = type_gives Inner (fields MAX_BRACES) n (opens_brace depth) more (fields_pass depth) h.type_is.a t h.type_is.b fits_b h.type_is.part (behind_semicolon h.type_is.b rest h.type_is.closes) (other s.Semicolon s.Name refl h.type_is.b (head_is s.Semicolon h.type_is.b rest h.type_is.closes)) in
         let close = expect_gives s.Semicolon h.type_is.b rest h.type_is.closes in
         first_of (search rules, grind (arith, common_steps))
 
@@ -58,17 +58,17 @@ module _ (depth : ℕ) where
 
   entries_give : (ts : Tokens) (es : List Entry) (rest : Tokens) → (h : Braced (IsEntry Inner) ts es rest) → Fits 1 h.a → entries ts ≡ gives es rest
   unfolding entries
-  entries_give ts es rest h fits = braced_gives (IsEntry Inner) entry (Fits 1) (entry_reads 1 (fields_give depth MAX_DEPTH 1 (omega arith))) ts es rest h fits
+  entries_give ts es rest h fits = braced_gives (IsEntry Inner) entry (Fits 1) (entry_reads 1 (fields_give depth MAX_BRACES 1 (omega arith))) ts es rest h fits
 
-  more : (ts : Tokens) (fs : List FieldTree) (rest : Tokens) → Fits 0 ts → IsFieldsWithin depth ts fs rest → fields MAX_DEPTH ts ≡ gives fs rest
-  more = fields_give depth MAX_DEPTH 0 (omega arith)
+  more : (ts : Tokens) (fs : List FieldTree) (rest : Tokens) → Fits 0 ts → IsFieldsWithin depth ts fs rest → fields MAX_BRACES ts ≡ gives fs rest
+  more = fields_give depth MAX_BRACES 0 (omega arith)
 
   alias_gives : (ts : Tokens) (t : TypeTree) (ws : List Text) (rest : Tokens) → Fits 0 ts → IsAlias Inner ts t ws rest → sees s.Name rest ≡ false → alias ts ≡ gives (items.Alias t ws) rest
   unfolding alias
   alias_gives ts t ws rest fits h none =
       let behind = left_of s.Typealias ts h.type_is.a h.type_is.opens in
       let fits_a = (stands s.Typealias ts h.type_is.a (λ n. refl) h.type_is.opens).fits 0 fits in
-      let of = type_gives Inner (fields MAX_DEPTH) 0 (opens_brace depth) more (fields_pass depth) h.type_is.a t h.type_is.b fits_a h.type_is.part (behind_declare h.type_is.b h.a h.type_is.closes) (other s.Declare s.Name refl h.type_is.b (head_is s.Declare h.type_is.b h.a h.type_is.closes)) in
+      let of = type_gives Inner (fields MAX_BRACES) 0 (opens_brace depth) more (fields_pass depth) h.type_is.a t h.type_is.b fits_a h.type_is.part (behind_declare h.type_is.b h.a h.type_is.closes) (other s.Declare s.Name refl h.type_is.b (head_is s.Declare h.type_is.b h.a h.type_is.closes)) in
       let declare = expect_gives s.Declare h.type_is.b h.a h.type_is.closes in
       let read = words_give h.a ws rest h.words none in
       first_of (search rules, grind (arith, common_steps))
@@ -91,19 +91,19 @@ module _ (depth : ℕ) where
       let front = head_is s.Struct ts h.a h.opens in
       let behind = left_of s.Struct ts h.a h.opens in
       let fits_a = (stands s.Struct ts h.a (λ n. refl) h.opens).fits 0 fits in
-      let read = struct_gives Inner (fields MAX_DEPTH) 0 (opens_brace depth) more (fields_pass depth) h.a t rest fits_a h.part (behind_semicolon rest b semicolon) in
+      let read = struct_gives Inner (fields MAX_BRACES) 0 (opens_brace depth) more (fields_pass depth) h.a t rest fits_a h.part (behind_semicolon rest b semicolon) in
       first_of (search rules, grind (arith, common_steps))
   declaration_gives ts (items.Variant t) rest b fits h semicolon =
       let front = head_is s.Variant ts h.a h.opens in
       let behind = left_of s.Variant ts h.a h.opens in
       let fits_a = (stands s.Variant ts h.a (λ n. refl) h.opens).fits 0 fits in
-      let read = variant_gives Inner (fields MAX_DEPTH) 0 (opens_brace depth) more (fields_pass depth) h.a t rest fits_a h.part (behind_semicolon rest b semicolon) in
+      let read = variant_gives Inner (fields MAX_BRACES) 0 (opens_brace depth) more (fields_pass depth) h.a t rest fits_a h.part (behind_semicolon rest b semicolon) in
       first_of (search rules, grind (arith, common_steps))
   declaration_gives ts (items.Enum e) rest b fits h semicolon =
       let front = head_is s.Enum ts h.a h.opens in
       let behind = left_of s.Enum ts h.a h.opens in
       let end = behind_semicolon rest b semicolon in
-      let names = enum_ends Inner (fields MAX_DEPTH) 0 (opens_brace depth) more (fields_pass depth) e.base e.labels rest (other s.Semicolon s.Name refl rest (head_is s.Semicolon rest b semicolon)) in
+      let names = enum_ends Inner (fields MAX_BRACES) 0 (opens_brace depth) more (fields_pass depth) e.base e.labels rest (other s.Semicolon s.Name refl rest (head_is s.Semicolon rest b semicolon)) in
       let read = enum_gives h.a e rest h.part end.ends names in
       first_of (search rules, grind (arith, common_steps))
   declaration_gives ts (items.Block block_of.Trace es) rest b fits h semicolon = let front = head_is s.Trace ts h.a h.opens in let read = block_gives block_of.Trace ts es rest fits h (λ n. refl) in first_of (search rules, grind (arith, common_steps))

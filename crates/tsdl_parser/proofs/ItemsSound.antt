@@ -15,7 +15,7 @@ use Rattle.tsdl_parser.specs.declared.tree.Item.{Item}
 use Rattle.tsdl_parser.specs.declared.tree.Item.TheVariants as items
 use Rattle.tsdl_parser.specs.Symbols.{head}
 use Rattle.tsdl_parser.specs.Parsers.{Parser, and_then, sees, after, expect, pure}
-use Rattle.tsdl_parser.specs.Reading.{MAX_DEPTH, path, attr_value, words, enum_tree, struct_tree, variant_tree, type_tree, fields, entry, entries, block, alias, item_by, declaration, item}
+use Rattle.tsdl_parser.specs.Reading.{MAX_BRACES, path, attr_value, words, enum_tree, struct_tree, variant_tree, type_tree, fields, entry, entries, block, alias, item_by, declaration, item}
 use Rattle.tsdl_parser.specs.Grammar.{Tokens, Text, Stands, Part, Behind, Braced, IsPath, IsWords, IsEnum, IsStruct, IsVariant, IsType, IsFieldsWithin, IsEntry, keyword_of, IsDeclaration, IsItemWith}
 use Rattle.tsdl_parser.proofs.Steps.{gives, sees_stands, pair_is, bound, symbol_cases, seen_head}
 use Rattle.tsdl_parser.proofs.Sound.{no_end, eaten, kept, expected, path_sound, words_sound, value_sound, braced_sound}
@@ -23,16 +23,16 @@ use Rattle.tsdl_parser.proofs.EnumsSound.{behind_sound, enum_sound}
 use Rattle.tsdl_parser.proofs.TypesSound.{struct_sound, variant_sound, type_sound, fields_sound}
 
 abbrev Inner : Part (List FieldTree)
-Inner = IsFieldsWithin MAX_DEPTH
+Inner = IsFieldsWithin MAX_BRACES
 
-inner_type : (ts : Tokens) (t : TypeTree) (rest : Tokens) → type_tree (fields MAX_DEPTH) ts ≡ gives t rest → IsType Inner ts t rest
-inner_type = type_sound Inner (fields MAX_DEPTH) (fields_sound MAX_DEPTH)
+inner_type : (ts : Tokens) (t : TypeTree) (rest : Tokens) → type_tree (fields MAX_BRACES) ts ≡ gives t rest → IsType Inner ts t rest
+inner_type = type_sound Inner (fields MAX_BRACES) (fields_sound MAX_BRACES)
 
 abbrev assigned : List Text → Parser Entry
 assigned ws = λ l. and_then (attr_value l) (λ v l. and_then (expect s.Semicolon l) (λ _. pure (entry_as.Assign (record { path = ws; value = v }))))
 
 abbrev declared : List Text → Parser Entry
-declared ws = λ l. and_then (expect s.Declare l) (λ _ l. and_then (type_tree (fields MAX_DEPTH) l) (λ of l. and_then (expect s.Semicolon l) (λ _. pure (entry_as.Declare ws of))))
+declared ws = λ l. and_then (expect s.Declare l) (λ _ l. and_then (type_tree (fields MAX_BRACES) l) (λ of l. and_then (expect s.Semicolon l) (λ _. pure (entry_as.Declare ws of))))
 
 entry_sound : (ts : Tokens) (x : Entry) (rest : Tokens) → entry ts ≡ gives x rest → IsEntry Inner ts x rest
 unfolding entry
@@ -48,7 +48,7 @@ entry_sound ts x rest e =
         subst (λ y. IsEntry Inner ts y rest) same.0 (record { a = a; path_is = h; value_is = record { a = after s.Assign a; b = v.0.1; opens = eaten s.Assign a refl is; part = value_sound (after s.Assign a) v.0.0 v.0.1 v.1; closes = subst (Stands s.Semicolon v.0.1) same.1 (expected s.Semicolon v.0.1 c.0.1 c.0.0 refl c.1) } })
     by ws a h false is e =
         let d = bound (expect s.Declare (after s.Assign a)) _ (x, rest) e in
-        let t = bound (type_tree (fields MAX_DEPTH) d.0.1) _ (x, rest) d.2 in
+        let t = bound (type_tree (fields MAX_BRACES) d.0.1) _ (x, rest) d.2 in
         let c = bound (expect s.Semicolon t.0.1) _ (x, rest) t.2 in
         let same = pair_is c.2 in
         let opens : Stands s.Declare a d.0.1 = subst (λ l. Stands s.Declare l d.0.1) (sym (kept s.Assign a is)) (expected s.Declare (after s.Assign a) d.0.1 d.0.0 refl d.1) in
@@ -68,7 +68,7 @@ block_sound kind ts i rest front apart e =
 alias_sound : (ts : Tokens) (i : Item) (rest : Tokens) → head ts ≡ s.Typealias → alias ts ≡ gives i rest → IsDeclaration Inner ts i rest
 unfolding alias
 alias_sound ts i rest front e =
-    let t = bound (type_tree (fields MAX_DEPTH) (drop 1 ts)) _ (i, rest) e in
+    let t = bound (type_tree (fields MAX_BRACES) (drop 1 ts)) _ (i, rest) e in
     let d = bound (expect s.Declare t.0.1) _ (i, rest) t.2 in
     let w = bound (words d.0.1) _ (i, rest) d.2 in
     let same = pair_is w.2 in
@@ -83,7 +83,7 @@ behind_keyword P y make p ts i rest apart front sound turn e =
 declaration_by : (i : Item) (ts rest : Tokens) (x : Symbol) → head ts ≡ x → item_by x ts ≡ gives i rest → IsDeclaration Inner ts i rest
 unfolding item_by
 declaration_by i ts rest = symbol_cases (λ x. head ts ≡ x → item_by x ts ≡ gives i rest → IsDeclaration Inner ts i rest)
-    (λ front e. none e) (λ front e. none e) (λ front e. none e) (λ front e. none e) (λ front e. alias_sound ts i rest front e) (λ front e. behind_keyword (IsStruct Inner) s.Struct items.Struct (struct_tree (fields MAX_DEPTH)) ts i rest refl front (struct_sound Inner (fields MAX_DEPTH) (fields_sound MAX_DEPTH) (drop 1 ts)) (λ x h. h) e) (λ front e. behind_keyword (IsVariant Inner) s.Variant items.Variant (variant_tree (fields MAX_DEPTH)) ts i rest refl front (variant_sound Inner (fields MAX_DEPTH) (fields_sound MAX_DEPTH) (drop 1 ts)) (λ x h. h) e) (λ front e. behind_keyword IsEnum s.Enum items.Enum enum_tree ts i rest refl front (enum_sound (drop 1 ts)) (λ x h. h) e) (λ front e. none e) (λ front e. none e) (λ front e. none e) (λ front e. block_sound block_of.Trace ts i rest front refl e) (λ front e. block_sound block_of.Stream ts i rest front refl e) (λ front e. block_sound block_of.Event ts i rest front refl e) (λ front e. block_sound block_of.Clock ts i rest front refl e) (λ front e. block_sound block_of.Env ts i rest front refl e) (λ front e. block_sound block_of.Callsite ts i rest front refl e) (λ front e. none e) (λ front e. none e) (λ front e. none e) (λ front e. none e) (λ front e. none e) (λ front e. none e) (λ front e. none e) (λ front e. none e) (λ front e. none e) (λ front e. none e) (λ front e. none e) (λ front e. none e) (λ front e. none e) (λ front e. none e) (λ front e. none e) (λ front e. none e)
+    (λ front e. none e) (λ front e. none e) (λ front e. none e) (λ front e. none e) (λ front e. alias_sound ts i rest front e) (λ front e. behind_keyword (IsStruct Inner) s.Struct items.Struct (struct_tree (fields MAX_BRACES)) ts i rest refl front (struct_sound Inner (fields MAX_BRACES) (fields_sound MAX_BRACES) (drop 1 ts)) (λ x h. h) e) (λ front e. behind_keyword (IsVariant Inner) s.Variant items.Variant (variant_tree (fields MAX_BRACES)) ts i rest refl front (variant_sound Inner (fields MAX_BRACES) (fields_sound MAX_BRACES) (drop 1 ts)) (λ x h. h) e) (λ front e. behind_keyword IsEnum s.Enum items.Enum enum_tree ts i rest refl front (enum_sound (drop 1 ts)) (λ x h. h) e) (λ front e. none e) (λ front e. none e) (λ front e. none e) (λ front e. block_sound block_of.Trace ts i rest front refl e) (λ front e. block_sound block_of.Stream ts i rest front refl e) (λ front e. block_sound block_of.Event ts i rest front refl e) (λ front e. block_sound block_of.Clock ts i rest front refl e) (λ front e. block_sound block_of.Env ts i rest front refl e) (λ front e. block_sound block_of.Callsite ts i rest front refl e) (λ front e. none e) (λ front e. none e) (λ front e. none e) (λ front e. none e) (λ front e. none e) (λ front e. none e) (λ front e. none e) (λ front e. none e) (λ front e. none e) (λ front e. none e) (λ front e. none e) (λ front e. none e) (λ front e. none e) (λ front e. none e) (λ front e. none e) (λ front e. none e)
   where
     none : None ≡ gives i rest → IsDeclaration Inner ts i rest
     none e = absurd (cc)

@@ -24,17 +24,17 @@ use Rattle.tsdl_parser.specs.declared.tree.BlockKind.TheVariants as block_of
 use Rattle.tsdl_parser.specs.declared.tree.Item.{Item}
 use Rattle.tsdl_parser.specs.declared.tree.Item.TheVariants as items
 use Rattle.tsdl_parser.specs.Symbols.{symbol_of, word_symbol}
-use Rattle.tsdl_parser.specs.Reading.{MAX_DEPTH}
+use Rattle.tsdl_parser.specs.Reading.{MAX_BRACES}
 use Rattle.tsdl_parser.specs.Depth.{opened_by}
 use Rattle.tsdl_parser.specs.Grammar.{Tokens, Text, Stands, IsWord, IsName, IsNumber, IsString, Part, Each, Maybe, Behind, Between, Braced, IsPath, IsWords, IsNegative, IsSigned, IsValue, IsAttr, IsAttrs, IsLabelName, IsRangeIfAny, IsLabel, AreMoreLabels, AreLabels, IsBase, IsEnum, IsDim, AreDims, IsAlign, IsBody, IsStruct, IsVariant, IsType, integer, float, string_type, struct, variant, enum, words_type, IsField, IsFieldsWithin, IsEntry, keyword_of, IsDeclaration, IsItemWith}
 use Rattle.tsdl_parser.proofs.Steps.{word_cases}
 
 -- with so many braces open at the front, never more than may be
 abbrev pub Fits : ℕ → Tokens → Type 0
-Fits n [] = n ≤ MAX_DEPTH
-Fits n (t ∷ ts) = (n ≤ MAX_DEPTH) × Fits (opened_by n (symbol_of t.kind)) ts
+Fits n [] = n ≤ MAX_BRACES
+Fits n (t ∷ ts) = (n ≤ MAX_BRACES) × Fits (opened_by n (symbol_of t.kind)) ts
 
-pub fits_here : (n : ℕ) (ts : Tokens) → Fits n ts → n ≤ MAX_DEPTH
+pub fits_here : (n : ℕ) (ts : Tokens) → Fits n ts → n ≤ MAX_BRACES
 fits_here n [] h = h
 fits_here n (t ∷ ts) h = h.0
 
@@ -87,7 +87,7 @@ number_passes ts n rest h = one_token ts rest h.token s.Number h.front (ap symbo
 pub string_passes : (ts : Tokens) (text : Text) (rest : Tokens) → IsString ts text rest → Passes ts rest
 string_passes ts text rest h = one_token ts rest h.token s.Str h.front (ap symbol_of h.is) (λ n. refl)
 
--- ---- parts one behind the other
+-- ---- parts one after the other
 
 module _ {A : Type 0} (P : Part A) where
   pub each_keeps : ((ts : Tokens) (x : A) (rest : Tokens) → P ts x rest → Passes ts rest) → (ts : Tokens) (xs : List A) (rest : Tokens) → Each P ts xs rest → Keeps ts rest

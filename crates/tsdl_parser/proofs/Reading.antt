@@ -1,11 +1,11 @@
--- Items one behind the other.
+-- Items one after the other.
 use Rattle.std.proofs.Common.{◌≡◌, ℕ, zero, suc, ◌+◌, ◌<◌, ◌≤◌, List, [], ◌∷◌, ◌++◌, length, take, get_or, fold, Bool, true, false, nat_lt, None, refl, sym, ap, ◌∙◌, subst, arith}
 use Rattle.std.proofs.lemmas.Bool.{ltb-true, ltb-false}
 use Rattle.tsdl_lex.specs.declared.token.Token.{Token}
 use Rattle.tsdl_parser.specs.declared.tree.Decl.{Decl}
 use Rattle.tsdl_parser.specs.declared.tree.Item.{Item}
 use Rattle.tsdl_parser.specs.Symbols.{symbol_of}
-use Rattle.tsdl_parser.specs.Reading.{MAX_DEPTH, item}
+use Rattle.tsdl_parser.specs.Reading.{MAX_BRACES, item}
 use Rattle.tsdl_parser.specs.Depth.{opened_by, opened, IsTooDeep, IsShallow}
 use Rattle.tsdl_parser.specs.Grammar.{Tokens, IsFieldsWithin, IsItem}
 use Rattle.tsdl_parser.specs.Declarations.{Leads, IsParsed, IsRefused}
@@ -17,7 +17,7 @@ use Rattle.tsdl_parser.proofs.ItemsSound.{item_sound}
 abbrev opened_from : ℕ → Tokens → ℕ
 opened_from n ts = fold (λ n token. opened_by n (symbol_of token.kind)) n ts
 
-fits_from : (n : ℕ) (ts : Tokens) → ((m : ℕ) → m ≤ length ts → opened_from n (take m ts) ≤ MAX_DEPTH) → Fits n ts
+fits_from : (n : ℕ) (ts : Tokens) → ((m : ℕ) → m ≤ length ts → opened_from n (take m ts) ≤ MAX_BRACES) → Fits n ts
 fits_from n [] h = h 0 (omega arith)
 fits_from n (t ∷ ts) h = (h 0 (omega arith), fits_from (opened_by n (symbol_of t.kind)) ts (λ m within. h (suc m) (omega (arith, within))))
 
@@ -31,7 +31,7 @@ pub reads_item : (ts : Tokens) (i : Item) (rest : Tokens) → Fits 0 ts → IsIt
 reads_item ts i rest fits h = item_gives h.0 ts i rest fits h.1
 
 pub is_item : (ts : Tokens) (i : Item) (rest : Tokens) → item ts ≡ gives i rest → IsItem ts i rest
-is_item ts i rest e = (MAX_DEPTH, item_sound ts i rest e)
+is_item ts i rest e = (MAX_BRACES, item_sound ts i rest e)
 
 pub no_item : (ts : Tokens) → Fits 0 ts → item ts ≡ None → (i : Item) (rest : Tokens) → IsItem ts i rest → ⊥
 no_item ts fits none i rest h = let e = reads_item ts i rest fits h in absurd (cc)
@@ -77,7 +77,7 @@ not_here total ts rest (x ∷ xs) (y ∷ ys) fits h g some none =
 pub not_refused : (tokens : Tokens) (xs : List Decl) (number : ℕ) → IsParsed tokens xs → IsRefused tokens number → ⊥
 not_refused tokens xs number h g = not_here (length tokens) tokens g.rest xs g.decls (shallow_fits tokens h.shallow) h.leads g.leads g.some g.none
 
--- tokens are too deep behind one of them at most
+-- tokens are too deep after one of them at most
 pub one_depth : (tokens : Tokens) (a b : ℕ) → IsTooDeep tokens a → IsTooDeep tokens b → a ≡ b
 one_depth tokens a b h g = by (nat_lt a b) refl (nat_lt b a) refl
   where

@@ -27,7 +27,7 @@ kept y ts none = sym (after_other y ts none)
 pub expected : (y : Symbol) (ts rest : Tokens) (u : Unit {0}) → sameb the_type s.End y ≡ false → expect y ts ≡ gives u rest → Stands y ts rest
 expected y ts rest u apart e = expect_stands y ts rest u (no_end y apart) e
 
--- a list that was read behind others
+-- a list that was read after others
 pub record More {A : Type 0} (P : Part A) (found : List A) (ts : Tokens) (all : List A) (rest : Tokens) : Type 0 where
   pub more : List A
   pub is : all ≡ found ++ more

@@ -23,7 +23,7 @@ use Rattle.tsdl_parser.specs.declared.tree.Dim.{Dim}
 use Rattle.tsdl_parser.specs.declared.tree.Dim.TheVariants as dim
 use Rattle.tsdl_parser.specs.Symbols.{head, word_symbol, symbol_of}
 use Rattle.tsdl_parser.specs.Parsers.{Parser, and_then, sees, word_of, name, if_seen, pure, ◌<$>◌, ◌>>=◌}
-use Rattle.tsdl_parser.specs.Reading.{MAX_DEPTH, path, attrs, enum_tree, last_apart, enum_named, dim_by, dim_of, dims_from, dims, is_align, sees_align, align, tag, is_some, struct_body, struct_tree, variant_tree, type_by, type_tree, typed_by, typed, field, fields}
+use Rattle.tsdl_parser.specs.Reading.{MAX_BRACES, path, attrs, enum_tree, last_apart, enum_named, dim_by, dim_of, dims_from, dims, is_align, sees_align, align, tag, is_some, struct_body, struct_tree, variant_tree, type_by, type_tree, typed_by, typed, field, fields}
 use Rattle.tsdl_parser.specs.Depth.{opened_by}
 use Rattle.tsdl_parser.specs.Grammar.{Tokens, Text, Stands, IsWord, IsName, Part, Each, Maybe, Behind, Between, IsPath, IsWords, IsAttrs, HasOne, IsEnum, IsDim, AreDims, IsAlign, IsBody, IsStruct, IsVariant, IsType, integer, float, string_type, struct, variant, enum, words_type, IsField, IsFieldsWithin}
 use Rattle.tsdl_parser.proofs.Firsts.{last_is}
@@ -95,7 +95,7 @@ align_gives ts (Some n) rest h none =
     let close = expect_gives s.CloseParen h.number_is.b rest h.number_is.closes in
     first_of (search rules, grind (arith, common_steps))
 
--- a name behind which no parenthesis stands
+-- a name after which no parenthesis stands
 no_align : (ts a : Tokens) (w : Text) → IsName ts w a → sees s.OpenParen a ≡ false → sees_align ts ≡ false
 no_align ts a w h none = ap sees_align h.word.front ∙ by (is_align (word_of h.word.token.kind)) none
   where
@@ -125,7 +125,7 @@ no_declare w = word_cases (λ x. x ≡ s.Declare → ⊥) (at s.Typealias refl) 
     at : (x : Symbol) → sameb the_type x s.Declare ≡ false → x ≡ s.Declare → ⊥
     at x = same_false the_type x s.Declare
 
--- what may stand behind a whole type
+-- what may stand after a whole type
 pub record TypeEnds (rest : Tokens) : Type 0 where
   pub ends : Ends rest
   pub no_parens : sees_align rest ≡ false
@@ -282,7 +282,7 @@ module _ (IsFields : Part (List FieldTree)) (all_fields : Parser (List FieldTree
   enum_ends (Some (base.Words ws)) None rest none = none
   enum_ends of (Some ls) rest none = tt {0}
 
-  -- a type behind which no name stands
+  -- a type after which no name stands
   pub type_gives : (ts : Tokens) (t : TypeTree) (rest : Tokens) → Fits n ts → IsType IsFields ts t rest → TypeEnds rest → sees s.Name rest ≡ false → type_tree all_fields ts ≡ gives t rest
   type_gives ts t rest fits (integer ts' xs rest' h) end none = integer_gives ts xs rest h
   type_gives ts t rest fits (float ts' xs rest' h) end none = float_gives ts xs rest h
@@ -360,7 +360,7 @@ module _ (IsFields : Part (List FieldTree)) (all_fields : Parser (List FieldTree
   enum_by ts a b called id (Some (base.Words ws)) (Some ls) h n none end end' = enum_closed ts a b (record { name = id; base = Some (base.Words ws); labels = Some ls }) called h n (tt {0}) (named_plainly a b called (record { name = id; base = Some (base.Words ws); labels = Some ls }) n) end
   enum_by ts a b called id (Some (base.Words ws)) None h n none end end' = enum_open ts a b called id ws h n none end'
 
-  -- a type and the field's name behind it
+  -- a type and the field's name after it
   typed_gives : (ts a b : Tokens) (t : TypeTree) (called : Text) → Fits n ts → IsType IsFields ts t a → IsName a called b → sees s.Name b ≡ false → TypeEnds a → Ends b → typed all_fields ts ≡ gives (t, called) b
   unfolding typed_by
   typed_gives ts a b t called fits (integer ts' xs a' h) n none end end' = named_after ts a b (ty.Integer xs) called s.Integer (head_is s.Integer ts h.a h.opens) refl (integer_gives ts xs a h) n
@@ -380,7 +380,7 @@ module _ (IsFields : Part (List FieldTree)) (all_fields : Parser (List FieldTree
       let is = h.is in
       first_of (search rules, grind (arith, common_steps))
     where
-      -- behind the name stands a bracket or the semicolon
+      -- after the name stands a bracket or the semicolon
       next : (ds : List Dim) (l : Tokens) → AreDims l ds h.c → (head l ≡ s.OpenBracket) ⊎ (head l ≡ s.Semicolon)
       next [] l d = inr (ap head d ∙ head_is s.Semicolon h.c rest h.semicolon)
       next (d ∷ ds) l i = inl (head_is s.OpenBracket l i.1.a i.1.opens)
@@ -420,7 +420,7 @@ pub inside : (n : ℕ) (ts a : Tokens) → Fits n ts → Stands s.OpenBrace ts a
 inside n ts a fits h = subst (λ y. Fits (opened_by n y) a) h.is (subst (Fits n) h.front fits).1
 
 -- fields are read where the braces that may still be opened are counted down, and those that are open up
-pub fields_give : (depth left n : ℕ) → MAX_DEPTH ≤ n + left → (ts : Tokens) (fs : List FieldTree) (rest : Tokens) → Fits n ts → IsFieldsWithin depth ts fs rest → fields left ts ≡ gives fs rest
+pub fields_give : (depth left n : ℕ) → MAX_BRACES ≤ n + left → (ts : Tokens) (fs : List FieldTree) (rest : Tokens) → Fits n ts → IsFieldsWithin depth ts fs rest → fields left ts ≡ gives fs rest
 unfolding fields
 fields_give zero left n sum ts fs rest fits h = absurd h
 fields_give (suc depth) zero n sum ts fs rest fits h = absurd (let deep = fits_here (n + 1) h.a (inside n ts h.a fits h.opens) in omega (arith, deep, sum))

@@ -193,7 +193,7 @@ module _ (IsFields : Part (List FieldTree)) (all_fields : Parser (List FieldTree
       last called tagged found a b c p g q true some e = let same = pair_is e in record { a = a; b = b; name = called; tag = tagged; body = found; name_is = p; tag_is = g; body_is = subst (Maybe IsFields b found) same.1 q; some = some_of called found some; is = sym same.0 }
       last called tagged found a b c p g q false some e = absurd (cc)
 
-  -- a keyword that was passed and the part behind it
+  -- a keyword that was passed and the part after it
   behind_keyword : {A : Type 0} (P : Part A) (y : Symbol) (make : A → TypeTree) (p : Parser A) (ts : Tokens) (t : TypeTree) (rest : Tokens) → sameb the_type s.End y ≡ false → head ts ≡ y → ((x : A) (l : Tokens) → p (drop 1 ts) ≡ gives x l → P (drop 1 ts) x l) → ((x : A) → Behind y P ts x rest → IsType IsFields ts (make x) rest) → and_then (p (drop 1 ts)) (λ x. pure (make x)) ≡ gives t rest → IsType IsFields ts t rest
   behind_keyword P y make p ts t rest apart front sound turn e =
       let x = bound (p (drop 1 ts)) (λ x. pure (make x)) (t, rest) e in
@@ -215,7 +215,7 @@ module _ (IsFields : Part (List FieldTree)) (all_fields : Parser (List FieldTree
   unfolding type_tree
   type_sound ts t rest e = type_by_sound t ts rest (head ts) refl e
 
-  -- a type and the field's name behind it
+  -- a type and the field's name after it
   record Typed (ts : Tokens) (t : TypeTree) (called : Text) (rest : Tokens) : Type 0 where
     a : Tokens
     type_is : IsType IsFields ts t a

@@ -15,7 +15,7 @@ pub record IsParsed (tokens : Tokens) (decls : List Decl) : Type 0 where
   pub shallow : IsShallow tokens
   pub leads : Leads (length tokens) tokens decls []
 
--- behind the items before it, no item begins where this one, counted from 1, would
+-- after the items before it, no item begins where this one, counted from 1, would
 pub record IsRefused (tokens : Tokens) (item : ℕ) : Type 0 where
   pub shallow : IsShallow tokens
   pub decls : List Decl

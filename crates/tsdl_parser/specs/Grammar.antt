@@ -1,4 +1,4 @@
--- The grammar of TSDL (CTF 1.8, appendix C), by its productions: a part, the tokens from its first on, and those behind it.
+-- The grammar of TSDL (CTF 1.8, appendix C), by its productions: a part, the tokens from its first on, and those after it.
 use Rattle.std.specs.Prelude.{◌≡◌, ◌⊎◌, ℕ, ℤ, pos, neg_ℤ, zero, suc, List, [], ◌∷◌, Option, Some, None, codes}
 use Rattle.tsdl_lex.specs.declared.token.Token.{Token}
 use Rattle.tsdl_lex.specs.declared.token.TokenKind.TheVariants as kind
@@ -62,7 +62,7 @@ pub record IsString (ts : Tokens) (text : Text) (rest : Tokens) : Type 0 where
   pub front : ts ≡ token ∷ rest
   pub is : token.kind ≡ kind.Str text
 
--- ---- parts one behind the other
+-- ---- parts one after the other
 
 abbrev pub Part : Type 0 → Type 1
 Part A = Tokens → A → Tokens → Type 0
@@ -77,7 +77,7 @@ abbrev pub Maybe : {A : Type 0} → Part A → Part (Option A)
 Maybe P ts None rest = ts ≡ rest
 Maybe P ts (Some x) rest = P ts x rest
 
--- a symbol and a part behind it
+-- a symbol and a part after it
 pub record Behind {A : Type 0} (symbol : Symbol) (P : Part A) (ts : Tokens) (x : A) (rest : Tokens) : Type 0 where
   pub a : Tokens
   pub opens : Stands symbol ts a
@@ -175,7 +175,7 @@ HasOne None None = ⊥
 HasOne None (Some b) = Unit {0}
 HasOne (Some a) o = Unit {0}
 
--- enum := 'enum' name? (':' ('integer' attrs | words))? ('{' label (',' label)* ','? '}')?, behind its keyword; it has a name or labels
+-- enum := 'enum' name? (':' ('integer' attrs | words))? ('{' label (',' label)* ','? '}')?, after its keyword; it has a name or labels
 pub record IsEnum (ts : Tokens) (tree : EnumTree) (rest : Tokens) : Type 0 where
   pub a : Tokens
   pub b : Tokens
@@ -212,7 +212,7 @@ module _ (IsFields : Part (List FieldTree)) where
     pub align_is : Maybe IsAlign a align rest
     pub is : body ≡ roll-StructBody (record { fields = all; align = align })
 
-  -- struct := 'struct' name? ('{' field* '}' ('align' '(' number ')')?)?, behind its keyword; it has a name or a body
+  -- struct := 'struct' name? ('{' field* '}' ('align' '(' number ')')?)?, after its keyword; it has a name or a body
   pub record IsStruct (ts : Tokens) (tree : StructTree) (rest : Tokens) : Type 0 where
     pub a : Tokens
     pub name : Option Text
@@ -222,7 +222,7 @@ module _ (IsFields : Part (List FieldTree)) where
     pub some : HasOne name body
     pub is : tree ≡ roll-StructTree (record { name = name; body = body })
 
-  -- variant := 'variant' name? ('<' path '>')? ('{' field* '}')?, behind its keyword; it has a name or a body
+  -- variant := 'variant' name? ('<' path '>')? ('{' field* '}')?, after its keyword; it has a name or a body
   pub record IsVariant (ts : Tokens) (tree : VariantTree) (rest : Tokens) : Type 0 where
     pub a : Tokens
     pub b : Tokens

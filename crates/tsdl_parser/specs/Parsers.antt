@@ -1,4 +1,4 @@
--- Steps of reading tokens: what they begin with and the tokens behind it, or nothing.
+-- Steps of reading tokens: what they begin with and the tokens after it, or nothing.
 use Rattle.std.specs.Prelude.{◌≡◌, ℕ, zero, suc, Bool, if◌then◌else◌, List, [], ◌∷◌, ◌++◌, length, drop, Option, Some, None, option_map, Result, Ok, Err}
 use Rattle.tsdl_lex.specs.declared.token.Token.{Token}
 use Rattle.tsdl_lex.specs.declared.token.TokenKind.{TokenKind}

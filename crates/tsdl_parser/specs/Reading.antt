@@ -1,5 +1,6 @@
 -- Reading declarations, token by token. The productions that this agrees with stand in Grammar.
 use Rattle.std.specs.Prelude.{◌≡◌, ℕ, ℤ, pos, neg_ℤ, zero, suc, Bool, true, false, ◌||◌, ◌&&◌, if◌then◌else◌, List, [], ◌∷◌, ◌++◌, length, Option, Some, None, option_map, codes, Result, Ok, Err}
+pub use Rattle.trace_types.specs.declared.limits.TheConstants.{MAX_BRACES}
 use Rattle.tsdl_lex.specs.declared.token.Token.{Token}
 use Rattle.tsdl_parser.specs.declared.symbol.Symbol.{Symbol}
 use Rattle.tsdl_parser.specs.declared.symbol.Symbol.TheVariants as s
@@ -98,7 +99,7 @@ label = do
   given ← eat s.Assign
   if given then (do low ← signed; high ← range_end; pure (record { name = called; low = Some low; high = high })) else pure (record { name = called; low = None; high = None })
 
--- after a label: the closing brace, maybe behind a comma, or a comma and the next label
+-- after a label: the closing brace, maybe after a comma, or a comma and the next label
 unfoldable pub labels_from : ℕ → List Label → Parser (List Label)
 labels_from zero found = refuse
 labels_from (suc n) found = do
@@ -121,7 +122,7 @@ abbrev pub is_some : {A : Type 0} → Option A → Bool
 is_some None = false
 is_some (Some a) = true
 
--- behind its keyword
+-- after its keyword
 unfoldable pub enum_tree : Parser EnumTree
 enum_tree = do
   called ← if_seen s.Name word
@@ -184,7 +185,7 @@ abbrev pub is_align : Option Text → Bool
 is_align None = false
 is_align (Some word) = is_text word (codes "align")
 
--- `align(` comes next: behind a body, `align` without a parenthesis is a field's name
+-- `align(` comes next: after a body, `align` without a parenthesis is a field's name
 abbrev pub sees_align : List Token → Bool
 sees_align [] = false
 sees_align (t ∷ ts) = is_align (word_of t.kind) && sees s.OpenParen ts
@@ -206,7 +207,7 @@ module _ (fields : Parser (List FieldTree)) where
     all ← fields
     pure (roll-StructBody (record { fields = all; align = (← align) }))
 
-  -- behind its keyword
+  -- after its keyword
   unfoldable pub struct_tree : Parser StructTree
   struct_tree = do
     called ← if_seen s.Name word
@@ -256,10 +257,6 @@ unfoldable pub fields : ℕ → Parser (List FieldTree)
 fields zero = refuse
 fields (suc depth) = braced (field (fields depth))
 
--- how many braces may be open
-abbrev pub MAX_DEPTH : ℕ
-MAX_DEPTH = 40
-
 -- ---- declarations
 
 unfoldable pub entry : Parser Entry
@@ -268,7 +265,7 @@ entry = do
   given ← eat s.Assign
   if given
       then (do what ← attr_value; expect s.Semicolon; pure (entry_as.Assign (record { path = place; value = what })))
-      else (do expect s.Declare; of ← type_tree (fields MAX_DEPTH); expect s.Semicolon; pure (entry_as.Declare place of))
+      else (do expect s.Declare; of ← type_tree (fields MAX_BRACES); expect s.Semicolon; pure (entry_as.Declare place of))
 
 unfoldable pub entries : Parser (List Entry)
 entries = braced entry
@@ -279,15 +276,15 @@ block kind = (λ all. items.Block kind all) <$> (skip >> entries)
 unfoldable pub alias : Parser Item
 alias = do
   skip
-  of ← type_tree (fields MAX_DEPTH)
+  of ← type_tree (fields MAX_BRACES)
   expect s.Declare
   ws ← words
   pure (items.Alias of ws)
 
 unfoldable pub item_by : Symbol → Parser Item
 item_by s.Typealias = alias
-item_by s.Struct = skip >> items.Struct <$> struct_tree (fields MAX_DEPTH)
-item_by s.Variant = skip >> items.Variant <$> variant_tree (fields MAX_DEPTH)
+item_by s.Struct = skip >> items.Struct <$> struct_tree (fields MAX_BRACES)
+item_by s.Variant = skip >> items.Variant <$> variant_tree (fields MAX_BRACES)
 item_by s.Enum = skip >> items.Enum <$> enum_tree
 item_by s.Trace = block of_kind.Trace
 item_by s.Stream = block of_kind.Stream

@@ -7,10 +7,11 @@ use crate::enumerations::enum_tree;
 use crate::fault::Fault;
 use crate::symbol::Symbol;
 use crate::tree::{Attr, BlockKind, Entry, Item};
-use crate::types::{MAX_DEPTH, struct_tree, type_tree, variant_tree};
+use crate::types::{struct_tree, type_tree, variant_tree};
 use crate::values::{attr_value, path, words};
 use sqlite_items::Items;
 use std::alloc::Global;
+use trace_types::MAX_BRACES;
 
 /// A declaration, its semicolon included.
 #[tactic(auto, unfolding(crate::specs::Reading::item))]
@@ -30,11 +31,11 @@ fn declaration(alloc: Global, tokens: &mut Cursor<'_>) -> Result<Item, Fault>
         Symbol::Typealias => alias(alloc, tokens),
         Symbol::Struct => {
             tokens.skip();
-            Ok(Item::Struct(struct_tree(alloc, tokens, MAX_DEPTH)?))
+            Ok(Item::Struct(struct_tree(alloc, tokens, MAX_BRACES)?))
         }
         Symbol::Variant => {
             tokens.skip();
-            Ok(Item::Variant(variant_tree(alloc, tokens, MAX_DEPTH)?))
+            Ok(Item::Variant(variant_tree(alloc, tokens, MAX_BRACES)?))
         }
         Symbol::Enum => {
             tokens.skip();
@@ -56,7 +57,7 @@ fn alias(alloc: Global, tokens: &mut Cursor<'_>) -> Result<Item, Fault>
     ensures { Reads (spec.alias tokens.old) result tokens.new }
 {
     tokens.skip();
-    let ty = type_tree(alloc, tokens, MAX_DEPTH)?;
+    let ty = type_tree(alloc, tokens, MAX_BRACES)?;
     tokens.expect(Symbol::Declare)?;
     let words = words(alloc, tokens)?;
     Ok(Item::Alias { ty, words })
@@ -99,7 +100,7 @@ fn entry(alloc: Global, tokens: &mut Cursor<'_>) -> Result<Entry, Fault>
         return Ok(Entry::Assign(Attr { path, value }));
     }
     tokens.expect(Symbol::Declare)?;
-    let ty = type_tree(alloc, tokens, MAX_DEPTH)?;
+    let ty = type_tree(alloc, tokens, MAX_BRACES)?;
     tokens.expect(Symbol::Semicolon)?;
     Ok(Entry::Declare { path, ty })
 }

@@ -13,7 +13,7 @@ use sqlite_items::Items;
 use std::alloc::Global;
 use trace_types::Text;
 
-/// An enumeration, behind its keyword.
+/// An enumeration, after its keyword.
 #[tactic(auto, unfolding(crate::specs::Reading::enum_tree))]
 pub fn enum_tree(alloc: Global, tokens: &mut Cursor<'_>) -> Result<EnumTree, Fault>
     ensures { Reads (spec.enum_tree tokens.old) result tokens.new }

@@ -1,7 +1,7 @@
 //! The declarations of a text.
 ghost use Rattle.std.specs.Prelude.{◌≡◌, ◌≤◌, ℕ, Err, IfOk, MatchOption};
 ghost use Rattle.tsdl_parser.specs.Depth.{opened_by, IsTooDeep, IsShallow};
-ghost use Rattle.tsdl_parser.specs.Reading.{MAX_DEPTH};
+ghost use Rattle.tsdl_parser.specs.Reading.{MAX_BRACES};
 ghost use Rattle.tsdl_parser.specs.Declarations.{IsParsed, IsRefused};
 ghost use Rattle.tsdl_parser.specs.declared.text.ParseError.TheVariants.{TooDeep, Syntax};
 
@@ -10,16 +10,16 @@ use crate::declarations::item;
 use crate::fault::Fault;
 use crate::symbol::{Symbol, symbol_of};
 use crate::tree::Decl;
-use crate::types::MAX_DEPTH;
 use std::alloc::{AllocFailed, Global};
 use std::error::Error;
 use std::fmt;
+use trace_types::MAX_BRACES;
 use tsdl_lex::Token;
 
 /// Why tokens are no declarations.
 #[derive(Clone, Copy, Debug, PartialEq, Eq)]
 pub enum ParseError {
-    /// Behind this token, counted from 1, more than 40 braces are open.
+    /// After this token, counted from 1, more than 40 braces are open.
     TooDeep { token: u64 },
     /// Where this item, counted from 1, would begin, none does.
     Syntax { item: u64 },
@@ -85,7 +85,7 @@ fn parse_items(alloc: Global, tokens: &[Token]) -> Result<Vec<Decl>, ParseError>
     Ok(decls)
 }
 
-// The first token, counted from 1, behind which too many braces are open.
+// The first token, counted from 1, after which too many braces are open.
 fn first_too_deep(tokens: &[Token]) -> Option<u64>
     ensures { MatchOption result (IsShallow tokens.now) (IsTooDeep tokens.now) }
 {
@@ -94,16 +94,16 @@ fn first_too_deep(tokens: &[Token]) -> Option<u64>
     while place < tokens.len() {
         depth = opened_by(depth, symbol_of(&tokens[place].kind));
         place += 1;
-        if depth > MAX_DEPTH {
+        if depth > MAX_BRACES {
             return Some(place as u64);
         }
     }
     None
 }
 
-// How many braces are open behind a symbol.
+// How many braces are open after a symbol.
 fn opened_by(before: u32, symbol: Symbol) -> u32
-    requires { before ≤ MAX_DEPTH }
+    requires { before ≤ MAX_BRACES }
     ensures { result ≡ opened_by before symbol }
 {
     match symbol {

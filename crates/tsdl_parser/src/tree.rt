@@ -84,7 +84,7 @@ pub struct StructTree {
 #[derive(Debug, Drop)]
 pub struct StructBody {
     pub fields: Items<FieldTree>,
-    /// The number of `align(NUMBER)` behind the body.
+    /// The number of `align(NUMBER)` after the body.
     pub align: Option<u64>,
 }
 
@@ -126,7 +126,7 @@ pub struct Label {
 pub struct FieldTree {
     pub ty: TypeTree,
     pub name: Text,
-    /// The lengths behind the name, from left to right: `x[a][b]` is a list of `a` lists of `b`.
+    /// The lengths after the name, from left to right: `x[a][b]` is a list of `a` lists of `b`.
     pub dims: Items<Dim>,
 }
 

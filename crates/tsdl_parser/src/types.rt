@@ -18,9 +18,6 @@ use sqlite_items::Items;
 use std::alloc::Global;
 use trace_types::Text;
 
-/// How many braces may be open.
-pub const MAX_DEPTH: u32 = 40;
-
 /// A type. Structures and variants may stand in one another so deep.
 #[cycle(types)]
 #[tactic(auto, unfolding(crate::specs::Reading::type_tree, crate::specs::Reading::type_by))]
@@ -66,7 +63,7 @@ fn attrs_if_any(alloc: Global, tokens: &mut Cursor<'_>) -> Result<Option<Items<A
     }
 }
 
-/// A structure, behind its keyword.
+/// A structure, after its keyword.
 #[cycle(types)]
 #[tactic(auto, unfolding(crate::specs::Reading::struct_tree))]
 pub fn struct_tree(alloc: Global, tokens: &mut Cursor<'_>, depth: u32) -> Result<StructTree, Fault>
@@ -113,7 +110,7 @@ fn align(tokens: &mut Cursor<'_>) -> Result<Option<u64>, Fault>
     Ok(Some(number))
 }
 
-/// A variant, behind its keyword.
+/// A variant, after its keyword.
 #[cycle(types)]
 #[tactic(auto, unfolding(crate::specs::Reading::variant_tree))]
 pub fn variant_tree(

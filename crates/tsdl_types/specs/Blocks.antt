@@ -9,27 +9,27 @@ use Rattle.tsdl_parser.specs.declared.tree.BlockKind.{BlockKind}
 use Rattle.tsdl_parser.specs.declared.tree.BlockKind.TheVariants.{Trace, Stream, Event, Clock, Env, Callsite}
 use Rattle.tsdl_parser.specs.declared.tree.Entry.{Entry}
 use Rattle.tsdl_parser.specs.declared.tree.Entry.TheVariants as entry
-use Rattle.known_types.specs.Around.{Around, Written}
+use Rattle.type_scope.specs.BlockContexts.{BlockContext, Written}
 use Rattle.type_table.specs.declared.cause.MetaItemCause.{MetaItemCause}
 use Rattle.type_table.specs.declared.fault.Fault.{Fault}
 use Rattle.type_table.specs.declared.fault.Fault.TheVariants.{Breaks, OutOfMemory}
 use Rattle.type_table.specs.declared.cause.MetaItemCause.TheVariants.{DuplicateId, BadAttribute, BadReference}
 use Rattle.type_table.specs.declared.meta.ScopeName.{ScopeName}
 use Rattle.type_table.specs.declared.meta.ScopeName.TheVariants.{PacketHeader, PacketContext, EventHeader, StreamContext, EventContext, EventFields}
-use Rattle.type_table.specs.declared.told.ClockRate.{ClockRate}
-use Rattle.type_table.specs.declared.told.EventId.{EventId}
-use Rattle.known_types.specs.declared.way.Use.TheVariants as used
-use Rattle.known_types.specs.Known.{Step, Good, ◌>>=◌, ◌>>◌, pure, breaks, needs, scope_set, with_later, with_scopes}
-use Rattle.known_types.specs.References.{all_lead}
-use Rattle.known_types.specs.Uses.{is_struct}
-use Rattle.known_types.specs.Telling.{has_clock, has_event, stream_of, scopes_begun, telling, with_clock, with_event_named, with_hostname, with_stream, with_trace_read, with_uuid}
+use Rattle.type_table.specs.declared.declared.ClockRate.{ClockRate}
+use Rattle.type_table.specs.declared.declared.EventId.{EventId}
+use Rattle.type_scope.specs.declared.field_path.Use.TheVariants as used
+use Rattle.type_scope.specs.TypeScopes.{Step, Good, ◌>>=◌, ◌>>◌, pure, breaks, require, scope_set, with_deferred, with_scopes}
+use Rattle.type_scope.specs.References.{all_lead}
+use Rattle.type_scope.specs.Uses.{is_struct}
+use Rattle.type_scope.specs.Declaring.{has_clock, has_event, stream_of, scopes_begun, declaring, with_clock, with_event_named, with_hostname, with_stream, with_trace_read, with_uuid}
 use Rattle.type_rules.specs.Typing.{fields_within, used_as}
 use Rattle.tsdl_types.specs.Uuids.{uuid_said}
-use Rattle.type_rules.specs.Limits.{MAX_BRACES}
+use Rattle.trace_types.specs.declared.limits.TheConstants.{MAX_BRACES}
 use Rattle.tsdl_parser.specs.declared.tree.TypeTree.{TypeTree}
 use Rattle.type_table.specs.Types.{Text}
 use Rattle.type_rules.specs.Attributes.{dotted, is_seen, noted, id_said, freq_said, offset_said, is_version, trace_order_said}
-use Rattle.known_types.specs.Said.{is_named, said, same_words, value_named}
+use Rattle.type_scope.specs.Said.{is_named, said, same_words, value_named}
 
 -- ---- entries
 
@@ -99,7 +99,7 @@ values_of Clock = codes "name" ∷ codes "freq" ∷ codes "offset" ∷ codes "of
 values_of Env = codes "hostname" ∷ []
 values_of Callsite = []
 
--- an attribute of a block that has a value; behind the first host's name later ones aren't looked at
+-- an attribute of a block that has a value; after the first host's name later ones aren't looked at
 abbrev pub has_value : BlockKind → Bool → List Text → Bool
 has_value Env true path = false
 has_value kind is_hostname_told path = is_one_of (values_of kind) path
@@ -121,16 +121,16 @@ id_in name entries = unwrap_or (said id_said name (attrs_in entries)) 0
 -- ---- what may be declared once
 
 abbrev pub new_stream : ℕ → Step (Unit {0})
-new_stream id = λ k. needs (not (is_some (stream_of id k.told))) DuplicateId k
+new_stream id = λ k. require (not (is_some (stream_of id k.declared))) DuplicateId k
 
 abbrev pub new_event : EventId → Step (Unit {0})
-new_event id = λ k. needs (not (has_event id k.told)) DuplicateId k
+new_event id = λ k. require (not (has_event id k.declared)) DuplicateId k
 
 abbrev pub stream_there : ℕ → Step (Unit {0})
-stream_there id = λ k. needs (is_some (stream_of id k.told)) BadReference k
+stream_there id = λ k. require (is_some (stream_of id k.declared)) BadReference k
 
 abbrev pub new_clock : Text → Step (Unit {0})
-new_clock name = λ k. needs (not (has_clock name k.told)) DuplicateId k
+new_clock name = λ k. require (not (has_clock name k.declared)) DuplicateId k
 
 -- ---- entries that have values, with all entries of the block
 
@@ -141,16 +141,16 @@ Needs holds cause (Err (Breaks c)) = (holds ≡ false) × (c ≡ cause)
 Needs holds cause (Err OutOfMemory) = ⊥
 
 abbrev pub reads : {A : Type 0} → Option A → Step (Unit {0})
-reads found = needs (is_some found) BadAttribute
+reads found = require (is_some found) BadAttribute
 
 abbrev pub uuid_read : Option (List ℕ) → Step (Unit {0})
 uuid_read None = breaks BadAttribute
-uuid_read (Some u) = telling (with_uuid u)
+uuid_read (Some u) = declaring (with_uuid u)
 
 abbrev pub trace_value : Attr → Step (Unit {0})
 trace_value a =
     if is_named (codes "byte_order") a then reads (trace_order_said a.value)
-    else if is_named (codes "major") a then needs (is_version a.value) BadAttribute
+    else if is_named (codes "major") a then require (is_version a.value) BadAttribute
     else if is_named (codes "uuid") a then uuid_read (uuid_said a.value)
     else pure tt
 
@@ -167,7 +167,7 @@ event_id_in all = record { stream = id_in (codes "stream_id") all; id = id_in (c
 abbrev pub is_entry : Text → Entry → Bool
 is_entry name e = same_words (path_of e) (name ∷ [])
 
--- of two words that entries are of, the first entry of this one stands behind an entry of the other, if there is one
+-- of two words that entries are of, the first entry of this one stands after an entry of the other, if there is one
 abbrev pub stands_last : Text → Text → List Entry → Bool
 stands_last name other [] = true
 stands_last name other (e ∷ es) =
@@ -197,12 +197,12 @@ clock_value a =
 abbrev pub hostname_read : Option Text → Option Text → Step (Unit {0})
 hostname_read (Some known) found = pure tt
 hostname_read None None = breaks BadAttribute
-hostname_read None (Some name) = telling (with_hostname name)
+hostname_read None (Some name) = declaring (with_hostname name)
 
 -- the first host's name counts, over all blocks
 abbrev pub env_value : Attr → Step (Unit {0})
 env_value a =
-    if is_named (codes "hostname") a then (λ k. hostname_read k.told.hostname (text_said a.value) k)
+    if is_named (codes "hostname") a then (λ k. hostname_read k.declared.hostname (text_said a.value) k)
     else pure tt
 
 abbrev pub value_by : BlockKind → List Entry → Attr → Step (Unit {0})
@@ -221,29 +221,29 @@ is_again Env stood = false
 is_again _ stood = stood
 
 -- around a type of an entry: the scope that it is of, if it is of one, and the types of the block's scopes
-abbrev pub around_entry : ByteOrderKind → BlockKind → List Entry → List Text → Around
-around_entry order kind all path = record { order = order; reading = scope_given kind path; written = written kind all }
+abbrev pub entry_context : ByteOrderKind → BlockKind → List Entry → List Text → BlockContext
+entry_context order kind all path = record { order = order; reading = scope_given kind path; written = written kind all }
 
 -- the type of a scope is a structure; a breach in a type comes before a breach by its use
 abbrev pub declared_by : ByteOrderKind → BlockKind → List Entry → Bool → List Text → TypeTree → Option ScopeName → Step (Unit {0})
 declared_by order kind all stood path ty None = do
-  used_as (fields_within MAX_BRACES (around_entry order kind all path)) (around_entry order kind all path) used.Alone ty
-  λ k. needs (not (is_again kind stood || has_value kind (is_some k.told.hostname) path)) BadAttribute k
+  used_as (fields_within MAX_BRACES (entry_context order kind all path)) (entry_context order kind all path) used.Alone ty
+  λ k. require (not (is_again kind stood || has_value kind (is_some k.declared.hostname) path)) BadAttribute k
 declared_by order kind all stood path ty (Some scope) = do
-  t ← used_as (fields_within MAX_BRACES (around_entry order kind all path)) (around_entry order kind all path) used.Alone ty
-  needs (is_struct t && not (is_again kind stood)) BadAttribute
+  t ← used_as (fields_within MAX_BRACES (entry_context order kind all path)) (entry_context order kind all path) used.Alone ty
+  require (is_struct t && not (is_again kind stood)) BadAttribute
   λ k. Good (tt, with_scopes (scope_set scope t k.scopes) k)
 
 abbrev pub assigned_by : BlockKind → List Entry → Bool → Attr → Step (Unit {0})
 assigned_by kind all stood a =
-    needs (not (is_again kind stood || is_some (scope_given kind a.path))) BadAttribute >> value_by kind all a
+    require (not (is_again kind stood || is_some (scope_given kind a.path))) BadAttribute >> value_by kind all a
 
 -- an entry, whose path stood before or not
 unfoldable pub entry_of : ByteOrderKind → BlockKind → List Entry → Bool → Entry → Step (Unit {0})
 entry_of order kind all stood (entry.Assign a) = assigned_by kind all stood a
 entry_of order kind all stood (entry.Declare path ty) = declared_by order kind all stood path ty (scope_given kind path)
 
--- behind entries of these paths
+-- after entries of these paths
 abbrev pub entries_from : ByteOrderKind → BlockKind → List Entry → List (List Text) → List Entry → Step (Unit {0})
 entries_from order kind all seen [] = pure tt
 entries_from order kind all seen (e ∷ es) = entry_of order kind all (is_seen (path_of e) seen) e >> entries_from order kind all (noted (path_of e) seen) es
@@ -256,31 +256,31 @@ stream_before Event all = Some (id_in (codes "stream_id") all)
 stream_before _ all = None
 
 abbrev pub started : BlockKind → List Entry → Step (Unit {0})
-started kind all = λ k. Good (tt, with_later [] (with_scopes (scopes_begun (stream_before kind all) k) k))
+started kind all = λ k. Good (tt, with_deferred [] (with_scopes (scopes_begun (stream_before kind all) k) k))
 
-abbrev pub ways_lead : Step (Unit {0})
-ways_lead = λ k. needs (all_lead k.scopes k.later) BadReference k
+abbrev pub paths_lead : Step (Unit {0})
+paths_lead = λ k. require (all_lead k.scopes k.deferred) BadReference k
 
-abbrev pub trace_told : List Entry → Step (Unit {0})
-trace_told all = needs (is_assigned (codes "byte_order") all) BadAttribute >> ways_lead >> telling with_trace_read
+abbrev pub trace_declared : List Entry → Step (Unit {0})
+trace_declared all = require (is_assigned (codes "byte_order") all) BadAttribute >> paths_lead >> declaring with_trace_read
 
 -- what isn't written is judged here; what was judged where it is written holds still
-abbrev pub stream_told : List Entry → Step (Unit {0})
-stream_told all =
+abbrev pub stream_declared : List Entry → Step (Unit {0})
+stream_declared all =
     new_stream (id_in (codes "id") all)
-    >> ways_lead
-    >> (λ k. telling (with_stream (id_in (codes "id") all) (record { packet_context = k.scopes.packet_context; event_header = k.scopes.event_header; event_context = k.scopes.stream_context })) k)
+    >> paths_lead
+    >> (λ k. declaring (with_stream (id_in (codes "id") all) (record { packet_context = k.scopes.packet_context; event_header = k.scopes.event_header; event_context = k.scopes.stream_context })) k)
 
 -- the place of an event's name among the names, and the names with it
 abbrev pub name_in : List Entry → Text
 name_in all = unwrap_or (said name_said (codes "name") (attrs_in all)) []
 
-abbrev pub event_told : List Entry → Step (Unit {0})
-event_told all =
+abbrev pub event_declared : List Entry → Step (Unit {0})
+event_declared all =
     new_event (event_id_in all)
     >> (if is_assigned (codes "stream_id") all then pure tt else stream_there 0)
-    >> ways_lead
-    >> (λ k. telling (with_event_named (name_in all) (event_id_in all) k.scopes.event_context k.scopes.event_fields) k)
+    >> paths_lead
+    >> (λ k. declaring (with_event_named (name_in all) (event_id_in all) k.scopes.event_context k.scopes.event_fields) k)
 
 abbrev pub rate_in : List Entry → ClockRate
 rate_in all = record {
@@ -289,19 +289,19 @@ rate_in all = record {
   offset_s = unwrap_or (said offset_said (codes "offset_s") (attrs_in all)) (pos 0);
 }
 
-abbrev pub clock_told : List Entry → Step (Unit {0})
-clock_told all = needs (is_assigned (codes "name") all) BadAttribute >> new_clock (name_in all) >> telling (with_clock (name_in all) (rate_in all))
+abbrev pub clock_declared : List Entry → Step (Unit {0})
+clock_declared all = require (is_assigned (codes "name") all) BadAttribute >> new_clock (name_in all) >> declaring (with_clock (name_in all) (rate_in all))
 
-abbrev pub told_by : BlockKind → List Entry → Step (Unit {0})
-told_by Trace all = trace_told all
-told_by Stream all = stream_told all
-told_by Event all = event_told all
-told_by Clock all = clock_told all
-told_by Env all = pure tt
-told_by Callsite all = pure tt
+abbrev pub block_declared : BlockKind → List Entry → Step (Unit {0})
+block_declared Trace all = trace_declared all
+block_declared Stream all = stream_declared all
+block_declared Event all = event_declared all
+block_declared Clock all = clock_declared all
+block_declared Env all = pure tt
+block_declared Callsite all = pure tt
 
 abbrev pub entered_by : ByteOrderKind → BlockKind → List Entry → Step (Unit {0})
-entered_by order kind all = started kind all >> entries_from order kind all [] all >> told_by kind all
+entered_by order kind all = started kind all >> entries_from order kind all [] all >> block_declared kind all
 
 abbrev pub is_passed_over : BlockKind → Bool
 is_passed_over Callsite = true
@@ -315,4 +315,4 @@ is_trace _ = false
 unfoldable pub block_of : ByteOrderKind → BlockKind → List Entry → Step (Unit {0})
 block_of order kind all =
     if is_passed_over kind then pure tt
-    else ((λ k. needs (not (is_trace kind && k.told.is_trace_read)) DuplicateId k) >> entered_by order kind all)
+    else ((λ k. require (not (is_trace kind && k.declared.is_trace_read)) DuplicateId k) >> entered_by order kind all)

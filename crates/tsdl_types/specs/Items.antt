@@ -8,7 +8,7 @@ use Rattle.tsdl_parser.specs.declared.tree.Entry.{Entry}
 use Rattle.tsdl_parser.specs.declared.tree.Item.{Item}
 use Rattle.tsdl_parser.specs.declared.tree.Item.TheVariants as item
 use Rattle.tsdl_parser.specs.declared.tree.TypeTree.TheVariants as tree
-use Rattle.known_types.specs.Around.{Around}
+use Rattle.type_scope.specs.BlockContexts.{BlockContext}
 use Rattle.type_table.specs.declared.cause.MetaItemCause.{MetaItemCause}
 use Rattle.type_table.specs.declared.cause.MetaItemCause.TheVariants.{NoTrace}
 use Rattle.tsdl_types.specs.declared.error.MetaError.{MetaError}
@@ -16,19 +16,19 @@ use Rattle.tsdl_types.specs.declared.error.MetaError.TheVariants as error
 use Rattle.type_table.specs.declared.fault.Fault.{Fault}
 use Rattle.type_table.specs.declared.fault.Fault.TheVariants as fault
 use Rattle.type_table.specs.declared.names.NameKind.TheVariants as kind
-use Rattle.known_types.specs.declared.way.Use.TheVariants as used
-use Rattle.known_types.specs.Known.{Known, Step, Typed, Good, Bad, ◌>>=◌, ◌>>◌, pure, new_name, declared, empty_known}
-use Rattle.known_types.specs.Following.{or_else}
-use Rattle.known_types.specs.Traces.{Trace as TraceDeclared, trace_of}
+use Rattle.type_scope.specs.declared.field_path.Use.TheVariants as used
+use Rattle.type_scope.specs.TypeScopes.{TypeScope, Step, Typed, Good, Bad, ◌>>=◌, ◌>>◌, pure, new_name, declared, empty_scope}
+use Rattle.type_scope.specs.Following.{or_else}
+use Rattle.type_scope.specs.Traces.{Trace as TraceDeclared, trace_of}
 use Rattle.type_rules.specs.Attributes.{trace_order_said}
-use Rattle.known_types.specs.Said.{said}
+use Rattle.type_scope.specs.Said.{said}
 use Rattle.tsdl_types.specs.Blocks.{attrs_in, block_of, nothing_written}
 use Rattle.type_table.specs.Names.{spaced}
-use Rattle.type_rules.specs.Limits.{MAX_BRACES}
+use Rattle.trace_types.specs.declared.limits.TheConstants.{MAX_BRACES}
 use Rattle.type_rules.specs.Typing.{fields_within, used_as}
 
 -- nothing of a block stands around a type of an item
-abbrev pub outside : ByteOrderKind → Around
+abbrev pub outside : ByteOrderKind → BlockContext
 outside order = record { order = order; reading = None; written = nothing_written }
 
 unfoldable pub item_of : ByteOrderKind → Item → Step (Unit {0})
@@ -46,17 +46,17 @@ pub data Declared (A : Type 0) : Type 0 where
   Whole : A → Declared A
   Breaks : ℕ → MetaItemCause → Declared A
 
-abbrev pub declared_on : ℕ → (Known → Declared Known) → Typed (Unit {0} × Known) → Declared Known
+abbrev pub declared_on : ℕ → (TypeScope → Declared TypeScope) → Typed (Unit {0} × TypeScope) → Declared TypeScope
 declared_on n rest (Good r) = rest r.1
 declared_on n rest (Bad cause) = Breaks n cause
 
 -- from this item on
-abbrev pub declared_from : ByteOrderKind → ℕ → List Decl → Known → Declared Known
+abbrev pub declared_from : ByteOrderKind → ℕ → List Decl → TypeScope → Declared TypeScope
 declared_from order n [] k = Whole k
 declared_from order n (d ∷ decls) k = declared_on n (declared_from order (n + 1) decls) (item_of order d.item k)
 
-abbrev pub declared_in : ByteOrderKind → List Decl → Declared Known
-declared_in order decls = declared_from order 1 decls empty_known
+abbrev pub declared_in : ByteOrderKind → List Decl → Declared TypeScope
+declared_in order decls = declared_from order 1 decls empty_scope
 
 -- what is declared, or the item that is refused
 abbrev pub Declares : {A V : Type 0} → (V → A) → Declared A → Result V MetaError → Type 0
@@ -84,7 +84,7 @@ first_trace (d ∷ decls) = or_else (trace_entries d.item) (first_trace decls)
 abbrev pub order_in : List Entry → ByteOrderKind
 order_in entries = unwrap_or (said trace_order_said (codes "byte_order") (attrs_in entries)) Little
 
-abbrev pub ended : ByteOrderKind → Declared Known → Declared TraceDeclared
+abbrev pub ended : ByteOrderKind → Declared TypeScope → Declared TraceDeclared
 ended order (Whole k) = Whole (trace_of order k)
 ended order (Breaks n cause) = Breaks n cause
 

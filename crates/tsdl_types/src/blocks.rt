@@ -1,25 +1,25 @@
 //! The blocks of a text and what they tell.
 ghost use Rattle.std.specs.Prelude.{◌≡◌, ◌≤◌, codes, pos, unwrap_or, IfOk};
 ghost use Rattle.type_rules.specs.Attributes.{freq_said, offset_said};
-ghost use Rattle.known_types.specs.Said.{said};
+ghost use Rattle.type_scope.specs.Said.{said};
 ghost use Rattle.tsdl_types.specs.Blocks as blocks;
 ghost use Rattle.tsdl_types.specs.Blocks.{Needs};
 ghost use Rattle.tsdl_types.specs.Uuids.{uuid_said};
-ghost use Rattle.known_types.specs.Known.{Does};
-ghost use Rattle.known_types.specs.View.{state};
-ghost use Rattle.type_table.specs.ToldKept.{IsOffset, IsRate};
+ghost use Rattle.type_scope.specs.TypeScopes.{Does};
+ghost use Rattle.type_scope.specs.View.{state};
+ghost use Rattle.type_table.specs.TraceMetas.{IsOffset, IsRate};
 
 use crate::entries::{name_said, stands_last, value_in};
 use crate::uuids::uuid_said;
-use known_types::{Known, is_named};
 use std::alloc::Global;
 use trace_types::{OutOfMemory, Text};
 use tsdl_parser::{Attr, AttrValue, BlockKind, Entry};
 use type_rules::{freq_said, id_said, is_version, offset_said, trace_order_said};
+use type_scope::{TypeScope, is_named};
 use type_table::{ClockRate, EventId, Fault, MetaItemCause, StreamScopes};
 
 /// Refuses with a cause where this doesn't hold.
-pub fn needs(holds: bool, cause: MetaItemCause) -> Result<(), Fault>
+pub fn require(holds: bool, cause: MetaItemCause) -> Result<(), Fault>
     ensures { Needs holds cause result }
 {
     if holds {
@@ -30,16 +30,16 @@ pub fn needs(holds: bool, cause: MetaItemCause) -> Result<(), Fault>
 }
 
 // An attribute of a trace.
-fn trace_value(types: &mut Known, attr: &Attr) -> Result<(), Fault>
+fn trace_value(types: &mut TypeScope, attr: &Attr) -> Result<(), Fault>
     ensures { Does (blocks.trace_value attr.now (state types.old).known) result (state types.new) }
 {
     if is_named(attr, b"byte_order") {
-        needs(
+        require(
             trace_order_said(&attr.value).is_some(),
             MetaItemCause::BadAttribute,
         )
     } else if is_named(attr, b"major") {
-        needs(is_version(&attr.value), MetaItemCause::BadAttribute)
+        require(is_version(&attr.value), MetaItemCause::BadAttribute)
     } else if is_named(attr, b"uuid") {
         uuid_value(types, &attr.value)
     } else {
@@ -48,12 +48,12 @@ fn trace_value(types: &mut Known, attr: &Attr) -> Result<(), Fault>
 }
 
 // The trace's unique id.
-fn uuid_value(types: &mut Known, value: &AttrValue) -> Result<(), Fault>
+fn uuid_value(types: &mut TypeScope, value: &AttrValue) -> Result<(), Fault>
     ensures { Does (blocks.uuid_read (uuid_said value.now) (state types.old).known) result (state types.new) }
 {
     match uuid_said(value) {
         Some(uuid) => {
-            types.tell_uuid(uuid);
+            types.declare_uuid(uuid);
             Ok(())
         }
         None => Err(Fault::Breaks(MetaItemCause::BadAttribute)),
@@ -61,7 +61,7 @@ fn uuid_value(types: &mut Known, value: &AttrValue) -> Result<(), Fault>
 }
 
 // An attribute of a stream.
-fn stream_value(types: &mut Known, attr: &Attr) -> Result<(), Fault>
+fn stream_value(types: &mut TypeScope, attr: &Attr) -> Result<(), Fault>
     ensures { Does (blocks.stream_value attr.now (state types.old).known) result (state types.new) }
 {
     if !is_named(attr, b"id") {
@@ -73,22 +73,22 @@ fn stream_value(types: &mut Known, attr: &Attr) -> Result<(), Fault>
     new_stream(types, id)
 }
 
-fn new_stream(types: &mut Known, id: u64) -> Result<(), Fault>
+fn new_stream(types: &mut TypeScope, id: u64) -> Result<(), Fault>
     ensures { Does (blocks.new_stream id (state types.old).known) result (state types.new) }
 {
-    needs(types.stream(id).is_none(), MetaItemCause::DuplicateId)
+    require(types.stream(id).is_none(), MetaItemCause::DuplicateId)
 }
 
-fn stream_there(types: &mut Known, id: u64) -> Result<(), Fault>
+fn stream_there(types: &mut TypeScope, id: u64) -> Result<(), Fault>
     ensures { Does (blocks.stream_there id (state types.old).known) result (state types.new) }
 {
-    needs(types.stream(id).is_some(), MetaItemCause::BadReference)
+    require(types.stream(id).is_some(), MetaItemCause::BadReference)
 }
 
-fn new_event(types: &mut Known, event: EventId) -> Result<(), Fault>
+fn new_event(types: &mut TypeScope, event: EventId) -> Result<(), Fault>
     ensures { Does (blocks.new_event event (state types.old).known) result (state types.new) }
 {
-    needs(!types.has_event(event), MetaItemCause::DuplicateId)
+    require(!types.has_event(event), MetaItemCause::DuplicateId)
 }
 
 /// The id that is written in a block, or 0.
@@ -111,7 +111,7 @@ fn event_id_in(all: &[Entry]) -> EventId
 }
 
 // The pair of an event's ids is judged at the one that first stands last.
-fn new_pair(types: &mut Known, name: &[u8], other: &[u8], all: &[Entry]) -> Result<(), Fault>
+fn new_pair(types: &mut TypeScope, name: &[u8], other: &[u8], all: &[Entry]) -> Result<(), Fault>
     ensures { Does (blocks.new_pair name.now other.now all.now (state types.old).known) result (state types.new) }
 {
     if stands_last(all, name, other) {
@@ -122,17 +122,22 @@ fn new_pair(types: &mut Known, name: &[u8], other: &[u8], all: &[Entry]) -> Resu
 }
 
 // An attribute of an event.
-fn event_value(types: &mut Known, alloc: Global, all: &[Entry], attr: &Attr) -> Result<(), Fault>
+fn event_value(
+    types: &mut TypeScope,
+    alloc: Global,
+    all: &[Entry],
+    attr: &Attr,
+) -> Result<(), Fault>
     ensures { Does (blocks.event_value all.now attr.now (state types.old).known) result (state types.new) }
 {
     if is_named(attr, b"name") {
         let name = name_said(alloc, &attr.value)?;
-        needs(name.is_some(), MetaItemCause::BadAttribute)
+        require(name.is_some(), MetaItemCause::BadAttribute)
     } else if is_named(attr, b"id") {
-        needs(id_said(&attr.value).is_some(), MetaItemCause::BadAttribute)?;
+        require(id_said(&attr.value).is_some(), MetaItemCause::BadAttribute)?;
         new_pair(types, b"id", b"stream_id", all)
     } else if is_named(attr, b"stream_id") {
-        needs(id_said(&attr.value).is_some(), MetaItemCause::BadAttribute)?;
+        require(id_said(&attr.value).is_some(), MetaItemCause::BadAttribute)?;
         new_pair(types, b"stream_id", b"id", all)?;
         stream_there(types, id_said(&attr.value).unwrap_or(0))
     } else {
@@ -141,21 +146,21 @@ fn event_value(types: &mut Known, alloc: Global, all: &[Entry], attr: &Attr) -> 
 }
 
 // An attribute of a clock.
-fn clock_value(types: &mut Known, alloc: Global, attr: &Attr) -> Result<(), Fault>
+fn clock_value(types: &mut TypeScope, alloc: Global, attr: &Attr) -> Result<(), Fault>
     ensures { Does (blocks.clock_value attr.now (state types.old).known) result (state types.new) }
 {
     if is_named(attr, b"name") {
         let Some(name) = name_said(alloc, &attr.value)? else {
             return Err(Fault::Breaks(MetaItemCause::BadAttribute));
         };
-        needs(!types.has_clock(&name), MetaItemCause::DuplicateId)
+        require(!types.has_clock(&name), MetaItemCause::DuplicateId)
     } else if is_named(attr, b"freq") {
-        needs(
+        require(
             freq_said(&attr.value).is_some(),
             MetaItemCause::BadAttribute,
         )
     } else if is_named(attr, b"offset") || is_named(attr, b"offset_s") {
-        needs(
+        require(
             offset_said(&attr.value).is_some(),
             MetaItemCause::BadAttribute,
         )
@@ -165,7 +170,7 @@ fn clock_value(types: &mut Known, alloc: Global, attr: &Attr) -> Result<(), Faul
 }
 
 // An attribute of an environment. The first host's name counts.
-fn env_value(types: &mut Known, alloc: Global, attr: &Attr) -> Result<(), Fault>
+fn env_value(types: &mut TypeScope, alloc: Global, attr: &Attr) -> Result<(), Fault>
     ensures { Does (blocks.env_value attr.now (state types.old).known) result (state types.new) }
 {
     if !is_named(attr, b"hostname") || types.has_hostname() {
@@ -175,13 +180,13 @@ fn env_value(types: &mut Known, alloc: Global, attr: &Attr) -> Result<(), Fault>
         return Err(Fault::Breaks(MetaItemCause::BadAttribute));
     };
     let name = Text::from_bytes(alloc, text.as_bytes())?;
-    types.tell_hostname(name);
+    types.declare_hostname(name);
     Ok(())
 }
 
 /// An attribute of a block that has a value.
 pub fn value_of(
-    types: &mut Known,
+    types: &mut TypeScope,
     alloc: Global,
     kind: BlockKind,
     all: &[Entry],
@@ -200,52 +205,52 @@ pub fn value_of(
 }
 
 /// What the end of a block tells.
-pub fn told_by(
-    types: &mut Known,
+pub fn block_declared(
+    types: &mut TypeScope,
     alloc: Global,
     kind: BlockKind,
     all: &[Entry],
 ) -> Result<(), Fault>
-    ensures { Does (blocks.told_by kind all.now (state types.old).known) result (state types.new) }
+    ensures { Does (blocks.block_declared kind all.now (state types.old).known) result (state types.new) }
 {
     match kind {
-        BlockKind::Trace => trace_told(types, all),
-        BlockKind::Stream => stream_told(types, all),
-        BlockKind::Event => event_told(types, alloc, all),
-        BlockKind::Clock => clock_told(types, alloc, all),
+        BlockKind::Trace => trace_declared(types, all),
+        BlockKind::Stream => stream_declared(types, all),
+        BlockKind::Event => event_declared(types, alloc, all),
+        BlockKind::Clock => clock_declared(types, alloc, all),
         BlockKind::Env | BlockKind::Callsite => Ok(()),
     }
 }
 
-fn ways_lead(types: &mut Known) -> Result<(), Fault>
-    ensures step { Does (blocks.ways_lead (state types.old).known) result (state types.new) }
+fn paths_lead(types: &mut TypeScope) -> Result<(), Fault>
+    ensures step { Does (blocks.paths_lead (state types.old).known) result (state types.new) }
     ensures stays { types.new ≡ types.old }
 {
-    needs(types.ways_lead(), MetaItemCause::BadReference)
+    require(types.paths_lead(), MetaItemCause::BadReference)
 }
 
-fn trace_told(types: &mut Known, all: &[Entry]) -> Result<(), Fault>
-    ensures { Does (blocks.trace_told all.now (state types.old).known) result (state types.new) }
+fn trace_declared(types: &mut TypeScope, all: &[Entry]) -> Result<(), Fault>
+    ensures { Does (blocks.trace_declared all.now (state types.old).known) result (state types.new) }
 {
-    needs(
+    require(
         value_in(all, b"byte_order").is_some(),
         MetaItemCause::BadAttribute,
     )?;
-    ways_lead(types)?;
-    types.tell_trace();
+    paths_lead(types)?;
+    types.declare_trace();
     Ok(())
 }
 
-fn clock_told(types: &mut Known, alloc: Global, all: &[Entry]) -> Result<(), Fault>
-    ensures { Does (blocks.clock_told all.now (state types.old).known) result (state types.new) }
+fn clock_declared(types: &mut TypeScope, alloc: Global, all: &[Entry]) -> Result<(), Fault>
+    ensures { Does (blocks.clock_declared all.now (state types.old).known) result (state types.new) }
 {
-    needs(
+    require(
         value_in(all, b"name").is_some(),
         MetaItemCause::BadAttribute,
     )?;
     let name = name_in(alloc, all)?;
-    needs(!types.has_clock(&name), MetaItemCause::DuplicateId)?;
-    types.tell_clock(name, rate_in(all))?;
+    require(!types.has_clock(&name), MetaItemCause::DuplicateId)?;
+    types.declare_clock(name, rate_in(all))?;
     Ok(())
 }
 
@@ -293,33 +298,33 @@ fn offset_in(name: &[u8], all: &[Entry]) -> i128
     }
 }
 
-fn stream_told(types: &mut Known, all: &[Entry]) -> Result<(), Fault>
-    ensures { Does (blocks.stream_told all.now (state types.old).known) result (state types.new) }
+fn stream_declared(types: &mut TypeScope, all: &[Entry]) -> Result<(), Fault>
+    ensures { Does (blocks.stream_declared all.now (state types.old).known) result (state types.new) }
 {
     let id = id_in(b"id", all);
     new_stream(types, id)?;
-    ways_lead(types)?;
+    paths_lead(types)?;
     let scopes = types.scopes();
     let scopes = StreamScopes {
         packet_context: scopes.packet_context,
         event_header: scopes.event_header,
         event_context: scopes.stream_context,
     };
-    types.tell_stream(id, scopes)?;
+    types.declare_stream(id, scopes)?;
     Ok(())
 }
 
-fn event_told(types: &mut Known, alloc: Global, all: &[Entry]) -> Result<(), Fault>
-    ensures { Does (blocks.event_told all.now (state types.old).known) result (state types.new) }
+fn event_declared(types: &mut TypeScope, alloc: Global, all: &[Entry]) -> Result<(), Fault>
+    ensures { Does (blocks.event_declared all.now (state types.old).known) result (state types.new) }
 {
     let event = event_id_in(all);
     new_event(types, event)?;
     if value_in(all, b"stream_id").is_none() {
         stream_there(types, 0)?;
     }
-    ways_lead(types)?;
+    paths_lead(types)?;
     let name = name_in(alloc, all)?;
     let scopes = types.scopes();
-    types.tell_event(name, event, scopes.event_context, scopes.event_fields)?;
+    types.declare_event(name, event, scopes.event_context, scopes.event_fields)?;
     Ok(())
 }

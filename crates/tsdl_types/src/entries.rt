@@ -1,14 +1,14 @@
 //! The entries of blocks.
 ghost use Rattle.std.specs.Prelude.{◌≡◌, None, Some, IfNone, IfOk, IfSome};
-ghost use Rattle.known_types.specs.Said.{same_words, value_named};
+ghost use Rattle.type_scope.specs.Said.{same_words, value_named};
 ghost use Rattle.std.specs.List.{list_any};
 ghost use Rattle.tsdl_types.specs.Blocks as blocks;
 
-use known_types::{is_named, is_only};
 use std::alloc::Global;
 use trace_types::{OutOfMemory, Text};
 use tsdl_parser::{AttrValue, BlockKind, Entry};
 use type_rules::dotted;
+use type_scope::{is_named, is_only};
 use type_table::ScopeName;
 
 /// The path of an entry.
@@ -36,7 +36,7 @@ pub fn value_in<'a>(entries: &'a [Entry], name: &[u8]) -> Option<&'a AttrValue>
     None
 }
 
-/// Whether, of two words that entries are of, the first entry of `name` stands behind an entry of `other`, if there is one.
+/// Whether, of two words that entries are of, the first entry of `name` stands after an entry of `other`, if there is one.
 pub fn stands_last(entries: &[Entry], name: &[u8], other: &[u8]) -> bool
     ensures { result ≡ blocks.stands_last name.now other.now entries.now }
 {

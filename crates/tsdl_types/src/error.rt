@@ -4,7 +4,7 @@ use std::fmt;
 use trace_types::OutOfMemory;
 use type_table::MetaItemCause;
 
-/// The first item that breaks a rule, counted from 1, or want of memory.
+/// The first item that breaks a rule, counted from 1, or lack of memory.
 #[derive(Clone, Copy, Debug, PartialEq, Eq)]
 pub enum MetaError {
     Item { item: u64, cause: MetaItemCause },

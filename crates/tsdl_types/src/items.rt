@@ -2,32 +2,29 @@
 ghost use Rattle.std.specs.Prelude.{◌≡◌, ◌<◌, ◌+◌, ◌^◌, length};
 ghost use Rattle.tsdl_types.specs.Items as items;
 ghost use Rattle.tsdl_types.specs.Items.{Declares, IsRefused, declared_in};
-ghost use Rattle.known_types.specs.Known.{Does};
+ghost use Rattle.type_scope.specs.TypeScopes.{Does};
 ghost use Rattle.type_table.specs.Table.{tree_at};
 ghost use Rattle.type_rules.specs.Typing.{looked_at};
-ghost use Rattle.known_types.specs.View.{state};
+ghost use Rattle.type_scope.specs.View.{state};
 
 use crate::error::MetaError;
 use crate::whole_blocks::block_of;
-use known_types::{Around, Known, Use, Written};
 use std::alloc::Global;
-use trace_types::ByteOrderKind;
+use trace_types::{ByteOrderKind, MAX_BRACES};
 use tsdl_parser::{Decl, Item};
 use type_rules::{declare, enum_type, new_name, struct_type, used_as, variant_type};
+use type_scope::{BlockContext, TypeScope, Use, Written};
 use type_table::{Fault, NameKind, spaced};
-
-/// How many braces may be open in a text.
-pub const MAX_BRACES: u32 = 40;
 
 /// What the items of a text declare. Integers that don't tell their byte order have this one.
 pub fn declare_types(
     alloc: Global,
     order: ByteOrderKind,
     decls: &[Decl],
-) -> Result<Known, MetaError>
+) -> Result<TypeScope, MetaError>
     ensures { Declares (λ k. (state k).known) (declared_in order decls.now) result }
 {
-    let mut types = Known::new(alloc);
+    let mut types = TypeScope::new(alloc);
     for at in 0..decls.len() {
         if let Err(fault) = item_of(&mut types, alloc, order, &decls[at].item) {
             return Err(refused(at, fault));
@@ -51,29 +48,34 @@ fn refused(at: usize, fault: Fault) -> MetaError
 }
 
 #[tactic(auto, unfolding(crate::specs::Items::item_of, type_rules::specs::Typing::used_as, type_rules::specs::Typing::type_of))]
-fn item_of(types: &mut Known, alloc: Global, order: ByteOrderKind, item: &Item) -> Result<(), Fault>
+fn item_of(
+    types: &mut TypeScope,
+    alloc: Global,
+    order: ByteOrderKind,
+    item: &Item,
+) -> Result<(), Fault>
     ensures { Does (items.item_of order item.now (state types.old).known) result (state types.new) }
 {
     let nothing = Written::nothing();
-    let around = &Around::new(order, None, &nothing);
+    let block_context = &BlockContext::new(order, None, &nothing);
     match item {
         Item::Alias { ty, words } => {
-            let place = used_as(types, alloc, around, MAX_BRACES, Use::Alone, ty)?;
+            let place = used_as(types, alloc, block_context, MAX_BRACES, Use::Alone, ty)?;
             let name = Some(spaced(alloc, words.as_slice())?);
             new_name(types, NameKind::Alias, &name)?;
             declare(types, alloc, NameKind::Alias, &name, place)
         }
         Item::Struct(tree) => {
-            let (place, is_known) = struct_type(types, alloc, around, MAX_BRACES, tree)?;
-            look(types, alloc, around, place, is_known)
+            let (place, is_known) = struct_type(types, alloc, block_context, MAX_BRACES, tree)?;
+            look(types, alloc, block_context, place, is_known)
         }
         Item::Variant(tree) => {
-            let (place, is_known) = variant_type(types, alloc, around, MAX_BRACES, tree)?;
-            look(types, alloc, around, place, is_known)
+            let (place, is_known) = variant_type(types, alloc, block_context, MAX_BRACES, tree)?;
+            look(types, alloc, block_context, place, is_known)
         }
         Item::Enum(tree) => {
-            let (place, is_known) = enum_type(types, alloc, around, tree)?;
-            look(types, alloc, around, place, is_known)
+            let (place, is_known) = enum_type(types, alloc, block_context, tree)?;
+            look(types, alloc, block_context, place, is_known)
         }
         Item::Block { kind, entries } => {
             block_of(types, alloc, order, *kind, entries.as_slice())
@@ -81,19 +83,19 @@ fn item_of(types: &mut Known, alloc: Global, order: ByteOrderKind, item: &Item) 
     }
 }
 
-// Looks at the ways in a type that was declared before.
+// Looks at the field paths in a type that was declared before.
 fn look(
-    types: &mut Known,
+    types: &mut TypeScope,
     alloc: Global,
-    around: &Around<'_>,
+    block_context: &BlockContext<'_>,
     place: u32,
     is_known: bool,
 ) -> Result<(), Fault>
     requires { place < length (state types.old).types }
-    ensures { Does (looked_at around.now is_known (tree_at (state types.old).types place) (state types.old).known) result (state types.new) }
+    ensures { Does (looked_at block_context.now is_known (tree_at (state types.old).types place) (state types.old).known) result (state types.new) }
 {
     if is_known {
-        types.recheck(alloc, around, place)
+        types.recheck(alloc, block_context, place)
     } else {
         Ok(())
     }

@@ -1,6 +1,6 @@
 //! What one trace declares, from the items of its metadata.
 ghost use Rattle.std.specs.Prelude.{◌≡◌, None, Some, IfNone, IfSome};
-ghost use Rattle.known_types.specs.Traces.{trace};
+ghost use Rattle.type_scope.specs.Traces.{trace};
 ghost use Rattle.tsdl_types.specs.Items as items;
 ghost use Rattle.tsdl_types.specs.Items.{Declares, resolved};
 

@@ -4,9 +4,9 @@ ghost use Rattle.std.specs.Option.{option_copied};
 ghost use Rattle.tsdl_types.specs.Blocks as blocks;
 
 use crate::entries::is_two;
-use known_types::{Written, is_only};
 use trace_types::Text;
 use tsdl_parser::{BlockKind, Entry, TypeTree};
+use type_scope::{Written, is_only};
 
 /// The types that the entries of a block give its scopes.
 pub fn written(kind: BlockKind, entries: &[Entry]) -> Written<'_>

@@ -3,18 +3,17 @@ ghost use Rattle.std.specs.Prelude.{◌≡◌, [], is_some, OnOk};
 ghost use Rattle.tsdl_types.specs.Blocks as blocks;
 ghost use Rattle.tsdl_types.specs.Blocks.{path_of};
 ghost use Rattle.type_rules.specs.Attributes.{is_seen, noted};
-ghost use Rattle.known_types.specs.Known.{Does};
-ghost use Rattle.known_types.specs.View.{state};
+ghost use Rattle.type_scope.specs.TypeScopes.{Does};
+ghost use Rattle.type_scope.specs.View.{state};
 
-use crate::blocks::{id_in, needs, told_by, value_of};
+use crate::blocks::{block_declared, id_in, require, value_of};
 use crate::entries::{path_of, scope_given};
-use crate::items::MAX_BRACES;
 use crate::scopes::{is_value, written};
-use known_types::{Around, Known, Use, Written};
 use std::alloc::Global;
-use trace_types::{ByteOrderKind, Text};
+use trace_types::{ByteOrderKind, MAX_BRACES, Text};
 use tsdl_parser::{Attr, BlockKind, Entry, TypeTree};
 use type_rules::{SeenPaths, used_as};
+use type_scope::{BlockContext, TypeScope, Use, Written};
 use type_table::{Fault, MetaItemCause};
 
 // The entries of a block of a kind, where the trace has this byte order, and the types that they give its scopes.
@@ -29,7 +28,7 @@ struct Block<'a> {
 /// What a block tells.
 #[tactic(auto, unfolding(crate::specs::Blocks::block_of))]
 pub fn block_of(
-    types: &mut Known,
+    types: &mut TypeScope,
     alloc: Global,
     order: ByteOrderKind,
     kind: BlockKind,
@@ -41,7 +40,7 @@ pub fn block_of(
         return Ok(());
     }
     let again = is_trace(kind) && types.is_trace_read();
-    needs(!again, MetaItemCause::DuplicateId)?;
+    require(!again, MetaItemCause::DuplicateId)?;
     let written = &written(kind, all);
     let block = Block {
         order,
@@ -65,13 +64,13 @@ fn is_trace(kind: BlockKind) -> bool
     matches!(kind, BlockKind::Trace)
 }
 
-fn entered_by(types: &mut Known, alloc: Global, block: Block<'_>) -> Result<(), Fault>
+fn entered_by(types: &mut TypeScope, alloc: Global, block: Block<'_>) -> Result<(), Fault>
     requires { block.written.now ≡ blocks.written block.kind block.all.now }
     ensures { Does (blocks.entered_by block.entry.order block.entry.kind block.entry.all.now (state types.old).known) result (state types.new) }
 {
     types.begin(alloc, stream_before(block.kind, block.all));
     entries_of(types, alloc, block)?;
-    told_by(types, alloc, block.kind, block.all)
+    block_declared(types, alloc, block.kind, block.all)
 }
 
 // The stream whose scopes are read before those of a block.
@@ -84,7 +83,7 @@ fn stream_before(kind: BlockKind, all: &[Entry]) -> Option<u64>
     }
 }
 
-fn entries_of(types: &mut Known, alloc: Global, block: Block<'_>) -> Result<(), Fault>
+fn entries_of(types: &mut TypeScope, alloc: Global, block: Block<'_>) -> Result<(), Fault>
     requires { block.written.now ≡ blocks.written block.kind block.all.now }
     ensures { Does (blocks.entries_from block.entry.order block.entry.kind block.entry.all.now [] block.entry.all.now (state types.old).known) result (state types.new) }
 {
@@ -92,9 +91,9 @@ fn entries_of(types: &mut Known, alloc: Global, block: Block<'_>) -> Result<(), 
     entries_behind(types, alloc, block, seen)
 }
 
-// Entries behind those of these paths.
+// Entries after those of these paths.
 fn entries_behind<'a>(
-    types: &mut Known,
+    types: &mut TypeScope,
     alloc: Global,
     block: Block<'a>,
     mut seen: SeenPaths<'a>,
@@ -108,9 +107,9 @@ fn entries_behind<'a>(
     Ok(())
 }
 
-// An entry behind entries of these paths, to which its own is added.
+// An entry after entries of these paths, to which its own is added.
 fn next_entry<'a>(
-    types: &mut Known,
+    types: &mut TypeScope,
     alloc: Global,
     block: Block<'_>,
     seen: &mut SeenPaths<'a>,
@@ -126,7 +125,7 @@ fn next_entry<'a>(
 
 #[tactic(auto, unfolding(crate::specs::Blocks::entry_of))]
 fn entry_of(
-    types: &mut Known,
+    types: &mut TypeScope,
     alloc: Global,
     block: Block<'_>,
     stood: bool,
@@ -145,7 +144,7 @@ fn entry_of(
 
 // An entry that has a value.
 fn assigned_by(
-    types: &mut Known,
+    types: &mut TypeScope,
     alloc: Global,
     block: Block<'_>,
     stood: bool,
@@ -155,7 +154,7 @@ fn assigned_by(
 {
     let path = attr.path.as_slice();
     let breaks = is_again(block.kind, stood) || scope_given(block.kind, path).is_some();
-    needs(!breaks, MetaItemCause::BadAttribute)?;
+    require(!breaks, MetaItemCause::BadAttribute)?;
     value_of(types, alloc, block.kind, block.all, attr)
 }
 
@@ -171,7 +170,7 @@ fn is_again(kind: BlockKind, stood: bool) -> bool
 
 // An entry that has a type. That of a scope is a structure.
 fn declared_by(
-    types: &mut Known,
+    types: &mut TypeScope,
     alloc: Global,
     block: Block<'_>,
     stood: bool,
@@ -181,26 +180,26 @@ fn declared_by(
     requires { block.written.now ≡ blocks.written block.kind block.all.now }
     ensures { Does (blocks.declared_by block.entry.order block.entry.kind block.entry.all.now stood path.now tree.now (blocks.scope_given block.entry.kind path.now) (state types.old).known) result (state types.new) }
 {
-    let around = &around_entry(block, path);
-    let place = used_as(types, alloc, around, MAX_BRACES, Use::Alone, tree)?;
+    let block_context = &entry_context(block, path);
+    let place = used_as(types, alloc, block_context, MAX_BRACES, Use::Alone, tree)?;
     let again = is_again(block.kind, stood);
     match scope_given(block.kind, path) {
         None => {
             let breaks = again || has_value(types, block.kind, path);
-            needs(!breaks, MetaItemCause::BadAttribute)
+            require(!breaks, MetaItemCause::BadAttribute)
         }
         Some(scope) => {
             let holds = types.is_struct(place) && !again;
-            needs(holds, MetaItemCause::BadAttribute)?;
+            require(holds, MetaItemCause::BadAttribute)?;
             types.set_scope(scope, place);
             Ok(())
         }
     }
 }
 
-// Whether an attribute of a block has a value. Behind the first host's name later ones aren't looked at.
-fn has_value(types: &Known, kind: BlockKind, path: &[Text]) -> bool
-    ensures { result ≡ blocks.has_value kind (is_some (state types.now).known.told.hostname) path.now }
+// Whether an attribute of a block has a value. After the first host's name later ones aren't looked at.
+fn has_value(types: &TypeScope, kind: BlockKind, path: &[Text]) -> bool
+    ensures { result ≡ blocks.has_value kind (is_some (state types.now).known.declared.hostname) path.now }
 {
     match kind {
         BlockKind::Env if types.has_hostname() => false,
@@ -209,9 +208,9 @@ fn has_value(types: &Known, kind: BlockKind, path: &[Text]) -> bool
 }
 
 // What stands around a type of an entry.
-fn around_entry<'a>(block: Block<'a>, path: &[Text]) -> Around<'a>
+fn entry_context<'a>(block: Block<'a>, path: &[Text]) -> BlockContext<'a>
     requires { block.written.now ≡ blocks.written block.kind block.all.now }
-    ensures { result ≡ blocks.around_entry block.entry.order block.entry.kind block.entry.all.now path.now }
+    ensures { result ≡ blocks.entry_context block.entry.order block.entry.kind block.entry.all.now path.now }
 {
-    Around::new(block.order, scope_given(block.kind, path), block.written)
+    BlockContext::new(block.order, scope_given(block.kind, path), block.written)
 }

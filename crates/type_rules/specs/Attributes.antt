@@ -8,12 +8,12 @@ use Rattle.tsdl_parser.specs.declared.tree.Attr.{Attr}
 use Rattle.tsdl_parser.specs.declared.tree.AttrValue.{AttrValue}
 use Rattle.tsdl_parser.specs.declared.tree.AttrValue.TheVariants as value
 use Rattle.tsdl_parser.specs.Symbols.{is_text}
-use Rattle.known_types.specs.Said.{is_named, is_signed, is_word, said, same_words, sign_said}
+use Rattle.type_scope.specs.Said.{is_named, is_signed, is_word, said, same_words, sign_said}
 use Rattle.type_table.specs.declared.cause.MetaItemCause.{MetaItemCause}
 use Rattle.type_table.specs.declared.cause.MetaItemCause.TheVariants.{BadAttribute, BadReference}
 use Rattle.std.specs.Map.{keys_of}
 use Rattle.type_table.specs.declared.integer.Integer.{Integer}
-use Rattle.type_table.specs.declared.told.ClockRate.{ClockRate}
+use Rattle.type_table.specs.declared.declared.ClockRate.{ClockRate}
 use Rattle.type_table.specs.Types.{Text}
 
 abbrev pub number_in : ℕ → ℕ → AttrValue → Option ℕ
@@ -91,17 +91,17 @@ trace_order_said v =
     else if is_word (codes "be") v || is_word (codes "network") v then Some Big
     else None
 
-abbrev pub unless : Bool → MetaItemCause → Option MetaItemCause
-unless holds cause = if holds then None else Some cause
+abbrev pub cause_unless : Bool → MetaItemCause → Option MetaItemCause
+cause_unless holds cause = if holds then None else Some cause
 
 -- an attribute of an integer breaks its rule by itself
 abbrev pub own_fault : ByteOrderKind → List (Text × ClockRate) → Attr → Option MetaItemCause
 own_fault order clocks attr =
-    if is_named (codes "size") attr then unless (is_some (size_said attr.value)) BadAttribute
-    else if is_named (codes "align") attr then unless (is_some (align_said attr.value)) BadAttribute
-    else if is_named (codes "signed") attr then unless (is_some (sign_said attr.value)) BadAttribute
-    else if is_named (codes "byte_order") attr then unless (is_some (order_said order attr.value)) BadAttribute
-    else if is_named (codes "map") attr then unless (is_some (clock_said clocks attr.value)) BadReference
+    if is_named (codes "size") attr then cause_unless (is_some (size_said attr.value)) BadAttribute
+    else if is_named (codes "align") attr then cause_unless (is_some (align_said attr.value)) BadAttribute
+    else if is_named (codes "signed") attr then cause_unless (is_some (sign_said attr.value)) BadAttribute
+    else if is_named (codes "byte_order") attr then cause_unless (is_some (order_said order attr.value)) BadAttribute
+    else if is_named (codes "map") attr then cause_unless (is_some (clock_said clocks attr.value)) BadReference
     else None
 
 -- a path stands among these; these and it, each once
@@ -112,10 +112,10 @@ abbrev pub noted : List Text → List (List Text) → List (List Text)
 noted path paths = if is_seen path paths then paths else paths ++ path ∷ []
 
 abbrev pub or_later : Option MetaItemCause → Option MetaItemCause → Option MetaItemCause
-or_later None later = later
-or_later (Some cause) later = Some cause
+or_later None deferred = deferred
+or_later (Some cause) deferred = Some cause
 
--- behind these paths, the first attribute that stands twice or breaks its rule
+-- after these paths, the first attribute that stands twice or breaks its rule
 abbrev pub first_fault : ByteOrderKind → List (Text × ClockRate) → List (List Text) → List Attr → Option MetaItemCause
 first_fault order clocks seen [] = None
 first_fault order clocks seen (a ∷ attrs) =
@@ -124,7 +124,7 @@ first_fault order clocks seen (a ∷ attrs) =
 
 -- at the closing brace, a size that is missing; one that is there and no size was refused where it stands
 abbrev pub integer_fault : ByteOrderKind → List (Text × ClockRate) → List Attr → Option MetaItemCause
-integer_fault order clocks attrs = or_later (first_fault order clocks [] attrs) (unless (is_some (said size_said (codes "size") attrs)) BadAttribute)
+integer_fault order clocks attrs = or_later (first_fault order clocks [] attrs) (cause_unless (is_some (said size_said (codes "size") attrs)) BadAttribute)
 
 -- 8 where the size is a multiple of 8, else 1
 abbrev pub usual_align : ℕ → ℕ
@@ -139,7 +139,7 @@ integer_of order clocks attrs = record {
   clock = said (clock_said clocks) (codes "map") attrs;
 }
 
--- in the braces of a string, behind these paths: an attribute that stands twice
+-- in the braces of a string, after these paths: an attribute that stands twice
 abbrev pub is_twice : List (List Text) → List Attr → Bool
 is_twice seen [] = false
 is_twice seen (a ∷ attrs) = is_seen a.path seen || is_twice (noted a.path seen) attrs

@@ -3,16 +3,16 @@ ghost use Rattle.std.specs.Prelude.{◌≡◌, ◌≤◌, ◌<◌, ◌%◌, ◌^
 ghost use Rattle.indexmap.specs.IndexMap.{keys};
 ghost use Rattle.tsdl_parser.specs.Symbols.{is_text};
 ghost use Rattle.type_table.specs.Faults.{OnBreak};
-ghost use Rattle.type_rules.specs.Attributes.{align_said, before_last, clock_said, clock_words, first_fault, integer_fault, integer_of, is_twice, order_said, own_fault, size_said, some_words, unless, usual_align};
-ghost use Rattle.known_types.specs.Said.{is_named, said, same_words, sign_said, value_named};
+ghost use Rattle.type_rules.specs.Attributes.{align_said, before_last, clock_said, clock_words, first_fault, integer_fault, integer_of, is_twice, order_said, own_fault, size_said, some_words, cause_unless, usual_align};
+ghost use Rattle.type_scope.specs.Said.{is_named, said, same_words, sign_said, value_named};
 
 use crate::seen::SeenPaths;
 use crate::values::{align_said, dotted, order_said, size_said};
 use indexmap::IndexMap;
-use known_types::{is_named, is_signed, sign_said, value_named};
 use std::alloc::Global;
 use trace_types::{ByteOrderKind, OutOfMemory, Text};
 use tsdl_parser::{Attr, AttrValue};
+use type_scope::{is_named, is_signed, sign_said, value_named};
 use type_table::{ClockRate, Fault, Integer, MetaItemCause};
 
 /// The integer of these attributes, or the cause of the first that breaks a rule. Its clock is one of those that
@@ -131,18 +131,18 @@ fn own_fault(
 {
     let value = &attr.value;
     let cause = if is_named(attr, b"size") {
-        unless(size_said(value).is_some(), MetaItemCause::BadAttribute)
+        cause_unless(size_said(value).is_some(), MetaItemCause::BadAttribute)
     } else if is_named(attr, b"align") {
-        unless(align_said(value).is_some(), MetaItemCause::BadAttribute)
+        cause_unless(align_said(value).is_some(), MetaItemCause::BadAttribute)
     } else if is_named(attr, b"signed") {
-        unless(sign_said(value).is_some(), MetaItemCause::BadAttribute)
+        cause_unless(sign_said(value).is_some(), MetaItemCause::BadAttribute)
     } else if is_named(attr, b"byte_order") {
-        unless(
+        cause_unless(
             order_said(order, value).is_some(),
             MetaItemCause::BadAttribute,
         )
     } else if is_named(attr, b"map") {
-        unless(
+        cause_unless(
             clock_said(alloc, clocks, value)?.is_some(),
             MetaItemCause::BadReference,
         )
@@ -152,8 +152,8 @@ fn own_fault(
     Ok(cause)
 }
 
-fn unless(holds: bool, cause: MetaItemCause) -> Option<MetaItemCause>
-    ensures { result ≡ unless holds cause }
+fn cause_unless(holds: bool, cause: MetaItemCause) -> Option<MetaItemCause>
+    ensures { result ≡ cause_unless holds cause }
 {
     if holds { None } else { Some(cause) }
 }

@@ -1,47 +1,45 @@
 //! Lists of items.
 ghost use Rattle.std.specs.Prelude.{◌≡◌, ◌<◌, length};
-ghost use Rattle.known_types.specs.Known.{Gives};
+ghost use Rattle.type_scope.specs.TypeScopes.{Gives};
 ghost use Rattle.type_table.specs.Table.{tree_at};
 ghost use Rattle.type_rules.specs.Typing as typing;
-ghost use Rattle.known_types.specs.View.{state};
+ghost use Rattle.type_scope.specs.View.{state};
 
-use known_types::{Around, Known, Want};
 use std::alloc::Global;
+use trace_types::MAX_ITEMS;
 use tsdl_parser::Dim;
+use type_scope::{BlockContext, PathUse, TypeScope};
 use type_table::{Fault, MetaItemCause};
-
-/// The greatest number of items of an array.
-pub const MAX_ITEMS: u64 = 1_048_576;
 
 /// Lists of lists: the last that is written is in all others, and is judged first.
 pub fn lists(
-    types: &mut Known,
+    types: &mut TypeScope,
     alloc: Global,
-    around: &Around<'_>,
+    block_context: &BlockContext<'_>,
     dims: &[Dim],
     place: u32,
 ) -> Result<u32, Fault>
     requires { place < length (state types.old).types }
-    ensures { Gives (typing.lists around.now dims.now (tree_at (state types.old).types place) (state types.old).known) result (state types.new) }
+    ensures { Gives (typing.lists block_context.now dims.now (tree_at (state types.old).types place) (state types.old).known) result (state types.new) }
 {
     let [outer @ .., last] = dims else {
         return Ok(place);
     };
-    let item = list_of(types, alloc, around, last, place)?;
-    lists(types, alloc, around, outer, item)
+    let item = list_of(types, alloc, block_context, last, place)?;
+    lists(types, alloc, block_context, outer, item)
 }
 
 // A list of items each of which takes a bit at least.
 #[tactic(auto, unfolding(crate::specs::Typing::list_of))]
 fn list_of(
-    types: &mut Known,
+    types: &mut TypeScope,
     alloc: Global,
-    around: &Around<'_>,
+    block_context: &BlockContext<'_>,
     dim: &Dim,
     item: u32,
 ) -> Result<u32, Fault>
     requires { item < length (state types.old).types }
-    ensures { Gives (typing.list_of around.now dim.now (tree_at (state types.old).types item) (state types.old).known) result (state types.new) }
+    ensures { Gives (typing.list_of block_context.now dim.now (tree_at (state types.old).types item) (state types.old).known) result (state types.new) }
 {
     if types.may_be_empty(item) {
         return Err(Fault::Breaks(MetaItemCause::BadAttribute));
@@ -51,7 +49,7 @@ fn list_of(
         Dim::Fixed(count) => types.add_array(*count, item),
         Dim::Path(words) => {
             let place = types.add_sequence(alloc, words.as_slice(), item)?;
-            types.refer(alloc, around, Want::Length, words.as_slice())?;
+            types.check_path(alloc, block_context, PathUse::Length, words.as_slice())?;
             Ok(place)
         }
     }

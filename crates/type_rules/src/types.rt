@@ -2,42 +2,42 @@
 ghost use Rattle.std.specs.Prelude.{◌≡◌, ◌<◌, ◌≤◌, ◌%◌, IfOk, length};
 ghost use Rattle.tsdl_parser.specs.declared.tree.StructBody.{out-StructBody};
 ghost use Rattle.tsdl_parser.specs.declared.tree.VariantTree.{out-VariantTree};
-ghost use Rattle.known_types.specs.Known.{Does, Gives, Gives_too};
+ghost use Rattle.type_scope.specs.TypeScopes.{Does, Gives, Gives_too};
 ghost use Rattle.type_table.specs.Table.{tree_at};
 ghost use Rattle.type_rules.specs.Typing as typing;
 ghost use Rattle.type_rules.specs.Typing.{AlignSaid};
-ghost use Rattle.known_types.specs.View.{state};
+ghost use Rattle.type_scope.specs.View.{state};
 
 use crate::enums::enum_type;
 use crate::lists::lists;
 use crate::typing::{alias, declare, integer_type, known_as, new_name, string_type};
 use crate::values::is_align;
-use known_types::{Around, Known, Use, Want};
 use sqlite_items::Items;
 use std::alloc::Global;
 use trace_types::Text;
 use tsdl_parser::{FieldTree, StructBody, StructTree, TypeTree, VariantTree};
+use type_scope::{BlockContext, PathUse, TypeScope, Use};
 use type_table::{Fault, MetaItemCause, NameKind};
 
 /// A type that is used so. Structures and variants may stand in one another so deep.
 #[cycle(types)]
 #[tactic(auto, unfolding(crate::specs::Typing::used_as))]
 pub fn used_as(
-    types: &mut Known,
+    types: &mut TypeScope,
     alloc: Global,
-    around: &Around<'_>,
+    block_context: &BlockContext<'_>,
     depth: u32,
     role: Use,
     tree: &TypeTree,
 ) -> Result<u32, Fault>
-    ensures { Gives (typing.used_as (typing.fields_within depth around.now) around.now role tree.now (state types.old).known) result (state types.new) }
+    ensures { Gives (typing.used_as (typing.fields_within depth block_context.now) block_context.now role tree.now (state types.old).known) result (state types.new) }
 {
-    let (place, is_known) = type_of(types, alloc, around, depth, tree)?;
+    let (place, is_known) = type_of(types, alloc, block_context, depth, tree)?;
     if !types.may_be(role, place) {
         return Err(Fault::Breaks(MetaItemCause::BadAttribute));
     }
     if is_known {
-        types.recheck(alloc, around, place)?;
+        types.recheck(alloc, block_context, place)?;
     }
     Ok(place)
 }
@@ -46,17 +46,17 @@ pub fn used_as(
 #[cycle(types)]
 #[tactic(auto, unfolding(crate::specs::Typing::type_of))]
 fn type_of(
-    types: &mut Known,
+    types: &mut TypeScope,
     alloc: Global,
-    around: &Around<'_>,
+    block_context: &BlockContext<'_>,
     depth: u32,
     tree: &TypeTree,
 ) -> Result<(u32, bool), Fault>
-    ensures { Gives_too (typing.type_of (typing.fields_within depth around.now) around.now tree.now (state types.old).known) result (state types.new) }
+    ensures { Gives_too (typing.type_of (typing.fields_within depth block_context.now) block_context.now tree.now (state types.old).known) result (state types.new) }
 {
     match tree {
         TypeTree::Integer(attrs) => {
-            let place = integer_type(types, alloc, around, attrs.as_slice())?;
+            let place = integer_type(types, alloc, block_context, attrs.as_slice())?;
             Ok((place, false))
         }
         TypeTree::Float(_) => Err(Fault::Breaks(MetaItemCause::FloatType)),
@@ -64,9 +64,9 @@ fn type_of(
             let place = string_type(types, alloc, attrs)?;
             Ok((place, false))
         }
-        TypeTree::Struct(tree) => struct_type(types, alloc, around, depth, tree),
-        TypeTree::Variant(tree) => variant_type(types, alloc, around, depth, tree),
-        TypeTree::Enum(tree) => enum_type(types, alloc, around, tree),
+        TypeTree::Struct(tree) => struct_type(types, alloc, block_context, depth, tree),
+        TypeTree::Variant(tree) => variant_type(types, alloc, block_context, depth, tree),
+        TypeTree::Enum(tree) => enum_type(types, alloc, block_context, tree),
         TypeTree::Words(words) => {
             let place = alias(types, alloc, words.as_slice())?;
             Ok((place, true))
@@ -78,17 +78,17 @@ fn type_of(
 #[cycle(types)]
 #[tactic(auto, unfolding(crate::specs::Typing::struct_type))]
 pub fn struct_type(
-    types: &mut Known,
+    types: &mut TypeScope,
     alloc: Global,
-    around: &Around<'_>,
+    block_context: &BlockContext<'_>,
     depth: u32,
     tree: &StructTree,
 ) -> Result<(u32, bool), Fault>
-    ensures { Gives_too (typing.struct_type (typing.fields_within depth around.now) tree.now (state types.old).known) result (state types.new) }
+    ensures { Gives_too (typing.struct_type (typing.fields_within depth block_context.now) tree.now (state types.old).known) result (state types.new) }
 {
     match (&tree.body, &tree.name) {
         (Some(body), name) => {
-            let place = new_struct(types, alloc, around, depth, name, body)?;
+            let place = new_struct(types, alloc, block_context, depth, name, body)?;
             Ok((place, false))
         }
         (None, Some(name)) => {
@@ -102,17 +102,17 @@ pub fn struct_type(
 #[cycle(types)]
 #[tactic(auto, unfolding(crate::specs::Typing::new_struct))]
 fn new_struct(
-    types: &mut Known,
+    types: &mut TypeScope,
     alloc: Global,
-    around: &Around<'_>,
+    block_context: &BlockContext<'_>,
     depth: u32,
     name: &Option<Text>,
     body: &StructBody,
 ) -> Result<u32, Fault>
-    ensures { Gives (typing.new_struct (typing.fields_within depth around.now) name.now (out-StructBody body.now).fields (out-StructBody body.now).align (state types.old).known) result (state types.new) }
+    ensures { Gives (typing.new_struct (typing.fields_within depth block_context.now) name.now (out-StructBody body.now).fields (out-StructBody body.now).align (state types.old).known) result (state types.new) }
 {
     types.open(alloc, true)?;
-    fields(types, alloc, around, depth, body.fields.as_slice())?;
+    fields(types, alloc, block_context, depth, body.fields.as_slice())?;
     new_name(types, NameKind::Struct, name)?;
     let align = align_said(body.align)?;
     let place = types.end_struct(alloc, align)?;
@@ -135,17 +135,17 @@ fn align_said(align: Option<u64>) -> Result<u32, Fault>
 #[cycle(types)]
 #[tactic(auto, unfolding(crate::specs::Typing::variant_type))]
 pub fn variant_type(
-    types: &mut Known,
+    types: &mut TypeScope,
     alloc: Global,
-    around: &Around<'_>,
+    block_context: &BlockContext<'_>,
     depth: u32,
     tree: &VariantTree,
 ) -> Result<(u32, bool), Fault>
-    ensures { Gives_too (typing.variant_type (typing.fields_within depth around.now) around.now tree.now (state types.old).known) result (state types.new) }
+    ensures { Gives_too (typing.variant_type (typing.fields_within depth block_context.now) block_context.now tree.now (state types.old).known) result (state types.new) }
 {
     match (&tree.body, &tree.name) {
         (Some(body), _) => {
-            let place = new_variant(types, alloc, around, depth, tree, body.as_slice())?;
+            let place = new_variant(types, alloc, block_context, depth, tree, body.as_slice())?;
             Ok((place, false))
         }
         (None, Some(name)) => {
@@ -160,45 +160,45 @@ pub fn variant_type(
 #[cycle(types)]
 #[tactic(auto, unfolding(crate::specs::Typing::new_variant))]
 fn new_variant(
-    types: &mut Known,
+    types: &mut TypeScope,
     alloc: Global,
-    around: &Around<'_>,
+    block_context: &BlockContext<'_>,
     depth: u32,
     tree: &VariantTree,
     body: &[FieldTree],
 ) -> Result<u32, Fault>
-    ensures { Gives (typing.new_variant (typing.fields_within depth around.now) around.now (out-VariantTree tree.now).name (out-VariantTree tree.now).tag body.now (state types.old).known) result (state types.new) }
+    ensures { Gives (typing.new_variant (typing.fields_within depth block_context.now) block_context.now (out-VariantTree tree.now).name (out-VariantTree tree.now).tag body.now (state types.old).known) result (state types.new) }
 {
     types.open(alloc, false)?;
-    fields(types, alloc, around, depth, body)?;
+    fields(types, alloc, block_context, depth, body)?;
     new_name(types, NameKind::Variant, &tree.name)?;
     let place = types.end_variant(alloc)?;
     declare(types, alloc, NameKind::Variant, &tree.name, place)?;
-    tagged(types, alloc, around, &tree.tag, place)
+    tagged(types, alloc, block_context, &tree.tag, place)
 }
 
 // A variant with the tag that stands with its fields.
 fn tagged(
-    types: &mut Known,
+    types: &mut TypeScope,
     alloc: Global,
-    around: &Around<'_>,
+    block_context: &BlockContext<'_>,
     tag: &Option<Items<Text>>,
     place: u32,
 ) -> Result<u32, Fault>
     requires { place < length (state types.old).types }
-    ensures { Gives (typing.tagged around.now tag.now (tree_at (state types.old).types place) (state types.old).known) result (state types.new) }
+    ensures { Gives (typing.tagged block_context.now tag.now (tree_at (state types.old).types place) (state types.old).known) result (state types.new) }
 {
     let Some(words) = tag else {
         return Ok(place);
     };
     let place = types.add_tagged(alloc, words.as_slice(), place)?;
-    types.refer(alloc, around, Want::Tag, words.as_slice())?;
+    types.check_path(alloc, block_context, PathUse::Tag, words.as_slice())?;
     Ok(place)
 }
 
 // A variant that was declared before, with the tag that stands where it is used.
 fn retagged(
-    types: &mut Known,
+    types: &mut TypeScope,
     alloc: Global,
     tag: &Option<Items<Text>>,
     place: u32,
@@ -216,19 +216,19 @@ fn retagged(
 #[cycle(types)]
 #[tactic(auto, unfolding(crate::specs::Typing::fields_within))]
 fn fields(
-    types: &mut Known,
+    types: &mut TypeScope,
     alloc: Global,
-    around: &Around<'_>,
+    block_context: &BlockContext<'_>,
     depth: u32,
     body: &[FieldTree],
 ) -> Result<(), Fault>
-    ensures { Does (typing.fields_within depth around.now body.now (state types.old).known) result (state types.new) }
+    ensures { Does (typing.fields_within depth block_context.now body.now (state types.old).known) result (state types.new) }
 {
     if depth == 0 {
         return Err(Fault::Breaks(MetaItemCause::BadAttribute));
     }
     for tree in body {
-        field(types, alloc, around, depth - 1, tree)?;
+        field(types, alloc, block_context, depth - 1, tree)?;
     }
     Ok(())
 }
@@ -236,17 +236,17 @@ fn fields(
 #[cycle(types)]
 #[tactic(auto, unfolding(crate::specs::Typing::field))]
 fn field(
-    types: &mut Known,
+    types: &mut TypeScope,
     alloc: Global,
-    around: &Around<'_>,
+    block_context: &BlockContext<'_>,
     depth: u32,
     tree: &FieldTree,
 ) -> Result<(), Fault>
-    ensures { Does (typing.field (typing.fields_within depth around.now) around.now tree.now (state types.old).known) result (state types.new) }
+    ensures { Does (typing.field (typing.fields_within depth block_context.now) block_context.now tree.now (state types.old).known) result (state types.new) }
 {
     let is_struct = matches!(tree.ty, TypeTree::Struct(_)) && tree.dims.is_empty();
     types.enter(alloc, &tree.name, is_struct)?;
-    let place = used_as(types, alloc, around, depth, Use::Field, &tree.ty)?;
-    let place = lists(types, alloc, around, tree.dims.as_slice(), place)?;
+    let place = used_as(types, alloc, block_context, depth, Use::Field, &tree.ty)?;
+    let place = lists(types, alloc, block_context, tree.dims.as_slice(), place)?;
     types.add_field(alloc, &tree.name, place)
 }

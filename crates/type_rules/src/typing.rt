@@ -1,35 +1,35 @@
 //! The types of integers, strings, enumerations and aliases.
 ghost use Rattle.std.specs.Prelude.{◌≡◌, ◌<◌, OnOk, length, true};
-ghost use Rattle.known_types.specs.Known.{Does, Gives, declared, is_free, known_as, new_name};
+ghost use Rattle.type_scope.specs.TypeScopes.{Does, Gives, declared, is_free, known_as, new_name};
 ghost use Rattle.type_table.specs.Table.{tree_at};
 ghost use Rattle.type_rules.specs.Typing as typing;
-ghost use Rattle.known_types.specs.View.{state};
+ghost use Rattle.type_scope.specs.View.{state};
 
 use crate::integer::{is_twice, read_integer};
-use known_types::{Around, Known};
 use sqlite_items::Items;
 use std::alloc::Global;
 use trace_types::Text;
 use tsdl_parser::Attr;
+use type_scope::{BlockContext, TypeScope};
 use type_table::{Fault, MetaItemCause, NameKind, spaced};
 
 /// An integer.
 #[tactic(auto, unfolding(crate::specs::Typing::integer_type, crate::specs::Typing::integer))]
 pub fn integer_type(
-    types: &mut Known,
+    types: &mut TypeScope,
     alloc: Global,
-    around: &Around<'_>,
+    block_context: &BlockContext<'_>,
     attrs: &[Attr],
 ) -> Result<u32, Fault>
-    ensures { Gives (typing.integer_type around.now attrs.now (state types.old).known) result (state types.new) }
+    ensures { Gives (typing.integer_type block_context.now attrs.now (state types.old).known) result (state types.new) }
 {
-    let integer = read_integer(alloc, around.order(), types.clocks(), attrs)?;
+    let integer = read_integer(alloc, block_context.order(), types.clocks(), attrs)?;
     types.add_integer(integer)
 }
 
 /// A string.
 pub fn string_type(
-    types: &mut Known,
+    types: &mut TypeScope,
     alloc: Global,
     attrs: &Option<Items<Attr>>,
 ) -> Result<u32, Fault>
@@ -44,7 +44,7 @@ pub fn string_type(
 }
 
 /// The type of a name of this kind.
-pub fn known_as(types: &Known, kind: NameKind, name: &Text) -> Result<u32, Fault>
+pub fn known_as(types: &TypeScope, kind: NameKind, name: &Text) -> Result<u32, Fault>
     ensures { Gives (known_as kind name.now (state types.now).known) result (state types.now) }
 {
     match types.find(kind, name) {
@@ -55,7 +55,7 @@ pub fn known_as(types: &Known, kind: NameKind, name: &Text) -> Result<u32, Fault
 
 /// The type of an alias.
 #[tactic(auto, unfolding(crate::specs::Typing::alias))]
-pub fn alias(types: &Known, alloc: Global, words: &[Text]) -> Result<u32, Fault>
+pub fn alias(types: &TypeScope, alloc: Global, words: &[Text]) -> Result<u32, Fault>
     ensures { Gives (typing.alias words.now (state types.now).known) result (state types.now) }
 {
     match words {
@@ -68,7 +68,7 @@ pub fn alias(types: &Known, alloc: Global, words: &[Text]) -> Result<u32, Fault>
 }
 
 /// Whether a name, if there is one, is free.
-pub fn new_name(types: &mut Known, kind: NameKind, name: &Option<Text>) -> Result<(), Fault>
+pub fn new_name(types: &mut TypeScope, kind: NameKind, name: &Option<Text>) -> Result<(), Fault>
     ensures step { Does (new_name kind name.now (state types.old).known) result (state types.new) }
     ensures stays { types.new ≡ types.old }
 {
@@ -82,7 +82,7 @@ pub fn new_name(types: &mut Known, kind: NameKind, name: &Option<Text>) -> Resul
 
 /// Gives a type a name, if there is one, that is free.
 pub fn declare(
-    types: &mut Known,
+    types: &mut TypeScope,
     alloc: Global,
     kind: NameKind,
     name: &Option<Text>,

@@ -2,13 +2,13 @@
 ghost use Rattle.std.specs.Prelude.{◌≡◌, ◌≤◌, ◌%◌, ◌&&◌, true, nat_le, ℕ, List, ◌∷◌, [], IfOk, IfSome};
 ghost use Rattle.std.specs.Int.{is_power_of_two};
 ghost use Rattle.type_rules.specs.Attributes.{align_said, dotted, freq_said, id_said, is_version, number_in, offset_said, order_said, size_said, trace_order_said};
-ghost use Rattle.known_types.specs.Said.{is_word, same_words, sign_said};
-ghost use Rattle.type_table.specs.ToldKept.{IsOffset};
+ghost use Rattle.type_scope.specs.Said.{is_word, same_words, sign_said};
+ghost use Rattle.type_table.specs.TraceMetas.{IsOffset};
 
-use known_types::{HIGHEST, LOWEST, is_word};
 use std::alloc::Global;
 use trace_types::{ByteOrderKind, OutOfMemory, Text};
 use tsdl_parser::AttrValue;
+use type_scope::{HIGHEST, LOWEST, is_word};
 
 /// A size of 1 to 64 bits.
 pub fn size_said(value: &AttrValue) -> Option<u32>

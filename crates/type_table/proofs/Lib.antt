@@ -1,5 +1,5 @@
 pub mod Aligned
-pub mod Factual
+pub mod KnownSizes
 pub mod Keeping
 pub mod Rates
 pub mod Sums

@@ -4,13 +4,13 @@ use Rattle.std.proofs.lemmas.List.{length-append, length-map, get_or_append_left
 use Rattle.std.proofs.lemmas.Bool.{leb-true}
 use Rattle.type_table.specs.declared.meta.TypeMeta.{TypeMeta}
 use Rattle.type_table.specs.declared.meta.TypeMeta.TheVariants as meta
-use Rattle.type_table.specs.declared.facts.Facts.{Facts}
+use Rattle.type_table.specs.declared.type_size.TypeSize.{TypeSize}
 use Rattle.type_table.specs.declared.meta.FieldMeta.{FieldMeta}
-use Rattle.type_table.specs.Types.{Text, Ty, Fields, Field, No, Str, MAX_DEPTH, MAX_PARTS, depth, parts, Named, Struct, Variant, Array, Sequence, fits, widest, parts_of_all}
-use Rattle.type_table.specs.Facts.{facts_of, facts_at, meta_facts, are_fit, AreFit, no_sum, sum_of}
-use Rattle.type_table.specs.Table.{Table, Grows, Keeps, AreRanked, IsTable, trees, trees_from, tree, tree_at, grown, shape, FieldsIn, fields_at, integer_in, labels_at, name_at, way_of, way_or_here, NamesIn, RefersIn, IsBased, AreBased, IsWhole, IsSound, AreSound, IsSoundTable}
+use Rattle.type_table.specs.Types.{Text, Ty, Fields, Field, No, Str, MAX_TYPE_DEPTH, MAX_NODES, depth, nodes, Named, Struct, Variant, Array, Sequence, fits, widest, nodes_of_all}
+use Rattle.type_table.specs.TypeSizes.{type_size_of, type_size_at, meta_type_size, are_fit, AreFit, no_sum, sum_of}
+use Rattle.type_table.specs.Table.{Table, Grows, Keeps, AreRanked, IsTable, trees, trees_from, tree, tree_at, grown, shape, FieldsIn, fields_at, integer_in, labels_at, name_at, field_path_of, field_path_or_here, NamesIn, RefersIn, IsBased, AreBased, IsWhole, IsSound, AreSound, IsSoundTable}
 use Rattle.type_table.proofs.Trees.{trees_len, trees_push, trees_more, ranked_push}
-use Rattle.type_table.proofs.Factual.{IsSum, factual, facts_known, is_sum}
+use Rattle.type_table.proofs.KnownSizes.{IsSum, factual, facts_known, is_sum}
 
 along : {A B : Type 0} (f : A → B) (x y : A) → x ≡ y → f x ≡ f y
 along f x y h = ap f h
@@ -21,23 +21,23 @@ of names types = record { names = names; types = types }
 pub trees_count : (names : List Text) (types : List TypeMeta) → length (trees (of names types)) ≡ length types
 trees_count names types = omega (arith, trees_len names [] types)
 
-pub facts_count : (names : List Text) (types : List TypeMeta) (facts : List Facts) (n : ℕ) → IsTable (of names types) facts → n < length types → n < length facts
-facts_count names types facts n t h =
-    let count = along length _ _ t.known ∙ length-map (trees (of names types)) facts_of ∙ trees_count names types in
+pub facts_count : (names : List Text) (types : List TypeMeta) (type_sizes : List TypeSize) (n : ℕ) → IsTable (of names types) type_sizes → n < length types → n < length type_sizes
+facts_count names types type_sizes n t h =
+    let count = along length _ _ t.known ∙ length-map (trees (of names types)) type_size_of ∙ trees_count names types in
     omega (arith, count, h)
 
-pub facts_stand : (names : List Text) (types : List TypeMeta) (facts : List Facts) (n : ℕ) → IsTable (of names types) facts → n < length types → facts_at facts n ≡ facts_of (tree (of names types) n)
-facts_stand names types facts n t h = along (λ fs. facts_at fs n) _ _ t.known ∙ facts_known (trees (of names types)) n (omega (arith, h, trees_count names types))
+pub facts_stand : (names : List Text) (types : List TypeMeta) (type_sizes : List TypeSize) (n : ℕ) → IsTable (of names types) type_sizes → n < length types → type_size_at type_sizes n ≡ type_size_of (tree (of names types) n)
+facts_stand names types type_sizes n t h = along (λ fs. type_size_at fs n) _ _ t.known ∙ facts_known (trees (of names types)) n (omega (arith, h, trees_count names types))
 
--- the facts of the next type
-pub next_facts : (names : List Text) (types : List TypeMeta) (facts : List Facts) (t : TypeMeta) → IsTable (of names types) facts → RefersIn (length types) t → IsBased (trees (of names types)) t
-    → meta_facts facts t ≡ facts_of (shape names (trees (of names types)) t)
-next_facts names types facts t table refers based =
-    along (λ fs. meta_facts fs t) _ _ table.known ∙ factual names (trees (of names types)) t (subst (λ n. RefersIn n t) (sym (trees_count names types)) refers) based
+-- what is known of the next type
+pub next_facts : (names : List Text) (types : List TypeMeta) (type_sizes : List TypeSize) (t : TypeMeta) → IsTable (of names types) type_sizes → RefersIn (length types) t → IsBased (trees (of names types)) t
+    → meta_type_size type_sizes t ≡ type_size_of (shape names (trees (of names types)) t)
+next_facts names types type_sizes t table refers based =
+    along (λ fs. meta_type_size fs t) _ _ table.known ∙ factual names (trees (of names types)) t (subst (λ n. RefersIn n t) (sym (trees_count names types)) refers) based
 
-fit_push : (facts : List Facts) (f : Facts) → AreFit facts → are_fit f ≡ true → AreFit (facts ++ f ∷ [])
+fit_push : (type_sizes : List TypeSize) (f : TypeSize) → AreFit type_sizes → are_fit f ≡ true → AreFit (type_sizes ++ f ∷ [])
 fit_push [] f h e = (e, tt)
-fit_push (g ∷ facts) f h e = (h.0, fit_push facts f h.1 e)
+fit_push (g ∷ type_sizes) f h e = (h.0, fit_push type_sizes f h.1 e)
 
 sound_push : (types : List TypeMeta) (t : TypeMeta) → AreSound types → IsSound t → AreSound (types ++ t ∷ [])
 sound_push [] t h is = (is, tt)
@@ -66,26 +66,26 @@ based_push : (trees : List Ty) (ts : List TypeMeta) (t : TypeMeta) → AreBased 
 based_push trees [] t h b = (b, tt)
 based_push trees (u ∷ ts) t h b = (h.0, based_push trees ts t h.1 b)
 
-based_with : (names : List Text) (types : List TypeMeta) (facts : List Facts) (t : TypeMeta) → IsTable (of names types) facts → RefersIn (length types) t → IsBased (trees (of names types)) t → AreBased (trees (of names (types ++ t ∷ []))) (types ++ t ∷ [])
-based_with names types facts t table refers based =
+based_with : (names : List Text) (types : List TypeMeta) (type_sizes : List TypeSize) (t : TypeMeta) → IsTable (of names types) type_sizes → RefersIn (length types) t → IsBased (trees (of names types)) t → AreBased (trees (of names (types ++ t ∷ []))) (types ++ t ∷ [])
+based_with names types type_sizes t table refers based =
     let count = trees_count names types in
     let next = shape names (trees (of names types)) t ∷ [] in
     let old = based_all (length names) 0 (trees (of names types)) next types table.ranked (omega (arith, count)) table.based in
     let new = based_more (trees (of names types)) next (length types) t (omega (arith, count)) refers based in
     subst (λ ts. AreBased ts (types ++ t ∷ [])) (sym (trees_push names [] types t)) (based_push (trees (of names types) ++ next) types t old new)
 
-pub keeps_type : (names : List Text) (types : List TypeMeta) (facts : List Facts) (t : TypeMeta) (f : Facts) → IsTable (of names types) facts → NamesIn (length names) t → RefersIn (length types) t → IsBased (trees (of names types)) t → IsSound t
-    → f ≡ meta_facts facts t → are_fit f ≡ true → IsTable (of names (types ++ t ∷ [])) (facts ++ f ∷ [])
-keeps_type names types facts t f table in_names refers based sound is fit = record {
+pub keeps_type : (names : List Text) (types : List TypeMeta) (type_sizes : List TypeSize) (t : TypeMeta) (f : TypeSize) → IsTable (of names types) type_sizes → NamesIn (length names) t → RefersIn (length types) t → IsBased (trees (of names types)) t → IsSound t
+    → f ≡ meta_type_size type_sizes t → are_fit f ≡ true → IsTable (of names (types ++ t ∷ [])) (type_sizes ++ f ∷ [])
+keeps_type names types type_sizes t f table in_names refers based sound is fit = record {
   few_names = table.few_names;
   ranked = ranked_push (length names) 0 types t table.ranked in_names (subst (λ n. RefersIn n t) (omega arith) refers);
   sound = sound_push types t table.sound sound;
-  based = based_with names types facts t table refers based;
+  based = based_with names types type_sizes t table refers based;
   known = along (λ fs. fs ++ f ∷ []) _ _ table.known
-      ∙ along (λ g. map facts_of (trees (of names types)) ++ g ∷ []) _ _ (is ∙ next_facts names types facts t table refers based)
-      ∙ sym (map-append facts_of (trees (of names types)) (shape names (trees (of names types)) t ∷ []))
-      ∙ along (map facts_of) _ _ (sym (trees_push names [] types t));
-  fit = fit_push facts f table.fit fit;
+      ∙ along (λ g. map type_size_of (trees (of names types)) ++ g ∷ []) _ _ (is ∙ next_facts names types type_sizes t table refers based)
+      ∙ sym (map-append type_size_of (trees (of names types)) (shape names (trees (of names types)) t ∷ []))
+      ∙ along (map type_size_of) _ _ (sym (trees_push names [] types t));
+  fit = fit_push type_sizes f table.fit fit;
 }
 
 pub tree_pushed : (names : List Text) (types : List TypeMeta) (t : TypeMeta) → tree (of names (types ++ t ∷ [])) (length types) ≡ shape names (trees (of names types)) t
@@ -95,15 +95,15 @@ tree_pushed names types t =
 pub grows_type : (names : List Text) (types : List TypeMeta) (t : TypeMeta) → Grows (of names types) (of names (types ++ t ∷ []))
 grows_type names types t = record { more_names = []; more_types = t ∷ []; names = sym (append-nil names); types = refl }
 
-facts_length : (names : List Text) (types : List TypeMeta) (facts : List Facts) → IsTable (of names types) facts → length facts ≡ length types
-facts_length names types facts t = along length _ _ t.known ∙ length-map (trees (of names types)) facts_of ∙ trees_count names types
+facts_length : (names : List Text) (types : List TypeMeta) (type_sizes : List TypeSize) → IsTable (of names types) type_sizes → length type_sizes ≡ length types
+facts_length names types type_sizes t = along length _ _ t.known ∙ length-map (trees (of names types)) type_size_of ∙ trees_count names types
 
-pub facts_refer : (names : List Text) (types : List TypeMeta) (facts : List Facts) (t : TypeMeta) → IsTable (of names types) facts → RefersIn (length types) t → RefersIn (length facts) t
-facts_refer names types facts t table refers = subst (λ n. RefersIn n t) (sym (facts_length names types facts table)) refers
+pub facts_refer : (names : List Text) (types : List TypeMeta) (type_sizes : List TypeSize) (t : TypeMeta) → IsTable (of names types) type_sizes → RefersIn (length types) t → RefersIn (length type_sizes) t
+facts_refer names types type_sizes t table refers = subst (λ n. RefersIn n t) (sym (facts_length names types type_sizes table)) refers
 
-pub fits_by : (names : List Text) (types : List TypeMeta) (facts : List Facts) (t : TypeMeta) (b : Bool) → IsTable (of names types) facts → RefersIn (length types) t → IsBased (trees (of names types)) t → are_fit (meta_facts facts t) ≡ b
+pub fits_by : (names : List Text) (types : List TypeMeta) (type_sizes : List TypeSize) (t : TypeMeta) (b : Bool) → IsTable (of names types) type_sizes → RefersIn (length types) t → IsBased (trees (of names types)) t → are_fit (meta_type_size type_sizes t) ≡ b
     → fits (shape names (trees (of names types)) t) ≡ b
-fits_by names types facts t b table refers based fit = along are_fit _ _ (sym (next_facts names types facts t table refers based)) ∙ fit
+fits_by names types type_sizes t b table refers based fit = along are_fit _ _ (sym (next_facts names types type_sizes t table refers based)) ∙ fit
 
 pub within_push : (types : List TypeMeta) (t : TypeMeta) → length types < length (types ++ t ∷ [])
 within_push types t = omega (arith, length-append types (t ∷ []))
@@ -129,23 +129,23 @@ keeps old new ranked g = record {
 }
 
 -- the sum of fields tells of their trees
-pub sums : (names : List Text) (types : List TypeMeta) (facts : List Facts) (fs : List FieldMeta) → IsTable (of names types) facts → FieldsIn (length types) fs → IsSum no_sum (fields_at names (trees (of names types)) fs) (sum_of facts fs)
-sums names types facts fs table refers =
+pub sums : (names : List Text) (types : List TypeMeta) (type_sizes : List TypeSize) (fs : List FieldMeta) → IsTable (of names types) type_sizes → FieldsIn (length types) fs → IsSum no_sum (fields_at names (trees (of names types)) fs) (sum_of type_sizes fs)
+sums names types type_sizes fs table refers =
     subst (λ x. IsSum no_sum (fields_at names (trees (of names types)) fs) (sum_of x fs)) (sym table.known)
     (is_sum names (trees (of names types)) no_sum fs (subst (λ n. FieldsIn n fs) (sym (trees_count names types)) refers) (omega arith))
 
-pub fields_known : (names : List Text) (types : List TypeMeta) (facts : List Facts) (fs : List FieldMeta) → IsTable (of names types) facts → FieldsIn (length types) fs → FieldsIn (length facts) fs
-fields_known names types facts fs table refers = subst (λ n. FieldsIn n fs) (sym (facts_length names types facts table)) refers
+pub fields_known : (names : List Text) (types : List TypeMeta) (type_sizes : List TypeSize) (fs : List FieldMeta) → IsTable (of names types) type_sizes → FieldsIn (length types) fs → FieldsIn (length type_sizes) fs
+fields_known names types type_sizes fs table refers = subst (λ n. FieldsIn n fs) (sym (facts_length names types type_sizes table)) refers
 
 max_one : (fs : Fields) → max 1 (widest fs) ≡ widest fs
 max_one No = refl
 max_one (Field name ty fs) = omega (arith, max_one fs)
 
-pub widest_sum : (names : List Text) (types : List TypeMeta) (facts : List Facts) (fs : List FieldMeta) → IsTable (of names types) facts → FieldsIn (length types) fs → (sum_of facts fs).align ≡ widest (fields_at names (trees (of names types)) fs)
-widest_sum names types facts fs table refers = (sums names types facts fs table refers).align ∙ max_one (fields_at names (trees (of names types)) fs)
+pub widest_sum : (names : List Text) (types : List TypeMeta) (type_sizes : List TypeSize) (fs : List FieldMeta) → IsTable (of names types) type_sizes → FieldsIn (length types) fs → (sum_of type_sizes fs).align ≡ widest (fields_at names (trees (of names types)) fs)
+widest_sum names types type_sizes fs table refers = (sums names types type_sizes fs table refers).align ∙ max_one (fields_at names (trees (of names types)) fs)
 
-pub parts_sum : (names : List Text) (types : List TypeMeta) (facts : List Facts) (fs : List FieldMeta) → IsTable (of names types) facts → FieldsIn (length types) fs → (sum_of facts fs).parts ≡ parts_of_all (fields_at names (trees (of names types)) fs)
-parts_sum names types facts fs table refers = omega (arith, (sums names types facts fs table refers).parts)
+pub parts_sum : (names : List Text) (types : List TypeMeta) (type_sizes : List TypeSize) (fs : List FieldMeta) → IsTable (of names types) type_sizes → FieldsIn (length types) fs → (sum_of type_sizes fs).nodes ≡ nodes_of_all (fields_at names (trees (of names types)) fs)
+parts_sum names types type_sizes fs table refers = omega (arith, (sums names types type_sizes fs table refers).nodes)
 
 -- ---- a type at its place
 
@@ -185,13 +185,13 @@ shape_keeps names few all (meta.Struct align fields) same h = along (Struct alig
     fields_keep : (fs : List FieldMeta) → FieldsIn (length few) fs → fields_at names few fs ≡ fields_at names all fs
     fields_keep [] h = refl
     fields_keep (f ∷ fs) h = along (λ x. Field (name_at names f.name) x (fields_at names few fs)) _ _ (sym (same f.ty h.0)) ∙ along (Field (name_at names f.name) (tree_at all f.ty)) _ _ (fields_keep fs h.1)
-shape_keeps names few all (meta.Variant tag fields) same h = along (Variant (way_of names tag)) _ _ (fields_keep fields h)
+shape_keeps names few all (meta.Variant tag fields) same h = along (Variant (field_path_of names tag)) _ _ (fields_keep fields h)
   where
     fields_keep : (fs : List FieldMeta) → FieldsIn (length few) fs → fields_at names few fs ≡ fields_at names all fs
     fields_keep [] h = refl
     fields_keep (f ∷ fs) h = along (λ x. Field (name_at names f.name) x (fields_at names few fs)) _ _ (sym (same f.ty h.0)) ∙ along (Field (name_at names f.name) (tree_at all f.ty)) _ _ (fields_keep fs h.1)
 shape_keeps names few all (meta.Array count item) same h = along (Array count) _ _ (sym (same item h))
-shape_keeps names few all (meta.Sequence count item) same h = along (Sequence (way_or_here (way_of names count))) _ _ (sym (same item h))
+shape_keeps names few all (meta.Sequence count item) same h = along (Sequence (field_path_or_here (field_path_of names count))) _ _ (sym (same item h))
 
 -- the tree of a place, by the trees of all
 pub tree_is : (names : List Text) (types : List TypeMeta) (i : ℕ) (t : TypeMeta) → AreRanked (length names) 0 types → slice_get types i ≡ Some t → tree (of names types) i ≡ shape names (trees (of names types)) t
@@ -216,23 +216,23 @@ place_names names types i t r e = (ranked_at (length names) 0 types i t r e).0
 pub place_ranked : (names : List Text) (types : List TypeMeta) (i : ℕ) (t : TypeMeta) → AreRanked (length names) 0 types → slice_get types i ≡ Some t → RefersIn i t
 place_ranked names types i t r e = subst (λ m. RefersIn m t) (omega arith) (ranked_at (length names) 0 types i t r e).1
 
-fit_at : (facts : List Facts) (n : ℕ) (d : Facts) → n < length facts → AreFit facts → are_fit (get_or facts n d) ≡ true
+fit_at : (type_sizes : List TypeSize) (n : ℕ) (d : TypeSize) → n < length type_sizes → AreFit type_sizes → are_fit (get_or type_sizes n d) ≡ true
 fit_at [] n d h fit = absurd (omega (arith, h))
-fit_at (f ∷ facts) zero d h fit = fit.0
-fit_at (f ∷ facts) (suc n) d h fit = fit_at facts n d (omega (arith, h)) fit.1
+fit_at (f ∷ type_sizes) zero d h fit = fit.0
+fit_at (f ∷ type_sizes) (suc n) d h fit = fit_at type_sizes n d (omega (arith, h)) fit.1
 
 both_hold : (a b : Bool) → (a && b) ≡ true → (a ≡ true) × (b ≡ true)
 both_hold true b h = (refl, h)
 both_hold false b h = absurd (cc)
 
 -- every type is within the limits
-pub limited : (names : List Text) (types : List TypeMeta) (facts : List Facts) (n : ℕ) → IsTable (of names types) facts → n < length types → (depth (tree (of names types) n) ≤ MAX_DEPTH) × (parts (tree (of names types) n) ≤ MAX_PARTS)
-limited names types facts n table h =
-    let here = fit_at facts n (record { align = 0; depth = 0; parts = 0; may_be_empty = false }) (facts_count names types facts n table h) table.fit in
-    let same = along are_fit _ _ (sym (facts_stand names types facts n table h)) ∙ here in
-    let both = both_hold (nat_le (depth (tree (of names types) n)) MAX_DEPTH) (nat_le (parts (tree (of names types) n)) MAX_PARTS) same in
+pub limited : (names : List Text) (types : List TypeMeta) (type_sizes : List TypeSize) (n : ℕ) → IsTable (of names types) type_sizes → n < length types → (depth (tree (of names types) n) ≤ MAX_TYPE_DEPTH) × (nodes (tree (of names types) n) ≤ MAX_NODES)
+limited names types type_sizes n table h =
+    let here = fit_at type_sizes n (record { align = 0; depth = 0; nodes = 0; may_be_empty = false }) (facts_count names types type_sizes n table h) table.fit in
+    let same = along are_fit _ _ (sym (facts_stand names types type_sizes n table h)) ∙ here in
+    let both = both_hold (nat_le (depth (tree (of names types) n)) MAX_TYPE_DEPTH) (nat_le (nodes (tree (of names types) n)) MAX_NODES) same in
     (leb-true _ _ both.0, leb-true _ _ both.1)
 
 -- a table is sound, whatever facts are kept of it
-pub sound_table : (names : List Text) (types : List TypeMeta) (facts : List Facts) → IsTable (of names types) facts → IsSoundTable (of names types)
-sound_table names types facts table = subst (IsTable (of names types)) table.known table
+pub sound_table : (names : List Text) (types : List TypeMeta) (type_sizes : List TypeSize) → IsTable (of names types) type_sizes → IsSoundTable (of names types)
+sound_table names types type_sizes table = subst (IsTable (of names types)) table.known table

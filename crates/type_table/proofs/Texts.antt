@@ -7,9 +7,9 @@ use Rattle.std.proofs.lemmas.List.{length-append}
 use Rattle.std.proofs.lemmas.List.Quantifiers.{position-Some}
 use Rattle.indexmap.specs.IndexSet.{insert_key}
 use Rattle.type_table.specs.declared.meta.TypeMeta.{TypeMeta}
-use Rattle.type_table.specs.declared.facts.Facts.{Facts}
+use Rattle.type_table.specs.declared.type_size.TypeSize.{TypeSize}
 use Rattle.type_table.specs.Types.{Text}
-use Rattle.type_table.specs.Facts.{facts_of}
+use Rattle.type_table.specs.TypeSizes.{type_size_of}
 use Rattle.type_table.specs.Table.{Table, Grows, AreRanked, IsTable, AreBased, trees, name_at}
 use Rattle.type_table.proofs.Trees.{trees_more, ranked_more}
 
@@ -44,20 +44,20 @@ grows_by false names types name = record { more_names = name ∷ []; more_types 
 pub grows_name : (names : List Text) (types : List TypeMeta) (name : Text) → Grows (record { names = names; types = types }) (record { names = insert_key (pointwise nat_eq) names name; types = types })
 grows_name names types name = grows_by (list_any (pointwise nat_eq name) names) names types name
 
-keeps_by : (b : Bool) (names : List Text) (types : List TypeMeta) (facts : List Facts) (name : Text) → length names + 1 < 2 ^ 32 → IsTable (record { names = names; types = types }) facts → IsTable (record { names = if b then names else names ++ name ∷ []; types = types }) facts
-keeps_by true names types facts name room t = t
-keeps_by false names types facts name room t = record {
+keeps_by : (b : Bool) (names : List Text) (types : List TypeMeta) (type_sizes : List TypeSize) (name : Text) → length names + 1 < 2 ^ 32 → IsTable (record { names = names; types = types }) type_sizes → IsTable (record { names = if b then names else names ++ name ∷ []; types = types }) type_sizes
+keeps_by true names types type_sizes name room t = t
+keeps_by false names types type_sizes name room t = record {
   few_names = omega (arith, room, length-append names (name ∷ []));
   ranked = ranked_more (length names) (length (names ++ name ∷ [])) 0 types (omega (arith, length-append names (name ∷ []))) t.ranked;
-  known = t.known ∙ along (λ ts. map facts_of ts) _ _ (sym (trees_more names (name ∷ []) 0 [] types t.ranked));
+  known = t.known ∙ along (λ ts. map type_size_of ts) _ _ (sym (trees_more names (name ∷ []) 0 [] types t.ranked));
   sound = t.sound;
   based = subst (λ ts. AreBased ts types) (sym (trees_more names (name ∷ []) 0 [] types t.ranked)) t.based;
   fit = t.fit;
 }
 
 -- a table stays one with one more name
-pub keeps_name : (names : List Text) (types : List TypeMeta) (facts : List Facts) (name : Text) → length names + 1 < 2 ^ 32 → IsTable (record { names = names; types = types }) facts → IsTable (record { names = insert_key (pointwise nat_eq) names name; types = types }) facts
-keeps_name names types facts name room t = keeps_by (list_any (pointwise nat_eq name) names) names types facts name room t
+pub keeps_name : (names : List Text) (types : List TypeMeta) (type_sizes : List TypeSize) (name : Text) → length names + 1 < 2 ^ 32 → IsTable (record { names = names; types = types }) type_sizes → IsTable (record { names = insert_key (pointwise nat_eq) names name; types = types }) type_sizes
+keeps_name names types type_sizes name room t = keeps_by (list_any (pointwise nat_eq name) names) names types type_sizes name room t
 
 trees_by : (b : Bool) (names : List Text) (types : List TypeMeta) (name : Text) → AreRanked (length names) 0 types → trees (record { names = if b then names else names ++ name ∷ []; types = types }) ≡ trees (record { names = names; types = types })
 trees_by true names types name r = refl

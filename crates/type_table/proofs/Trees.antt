@@ -7,7 +7,7 @@ use Rattle.type_table.specs.declared.meta.FieldMeta.{FieldMeta}
 use Rattle.type_table.specs.declared.meta.LabelMeta.{LabelMeta}
 use Rattle.type_table.specs.declared.meta.Reference.{Reference}
 use Rattle.type_table.specs.Types.{Text, Ty, Field, Struct, Variant, Named, Sequence}
-use Rattle.type_table.specs.Table.{name_at, tree_at, way_by, way_of, way_or_here, fields_at, labels_at, integer_in, shape, grown, trees_from, AreBelow, RefersIn, FieldNamesIn, LabelNamesIn, NamesIn, AreRanked}
+use Rattle.type_table.specs.Table.{name_at, tree_at, field_path_by, field_path_of, field_path_or_here, fields_at, labels_at, integer_in, shape, grown, trees_from, AreBelow, RefersIn, FieldNamesIn, LabelNamesIn, NamesIn, AreRanked}
 
 along : {A B : Type 0} (f : A → B) (x y : A) → x ≡ y → f x ≡ f y
 along f x y h = ap f h
@@ -35,8 +35,8 @@ words_more : (names more : List Text) (ws : List ℕ) → AreBelow (length names
 words_more names more [] h = refl
 words_more names more (w ∷ ws) h = along (λ a. a ∷ map (name_at (names ++ more)) ws) _ _ (name_more names more w h.0) ∙ along (λ l. name_at names w ∷ l) _ _ (words_more names more ws h.1)
 
-way_more : (names more : List Text) (r : Reference) → AreBelow (length names) r.words → way_of (names ++ more) r ≡ way_of names r
-way_more names more r h = along (λ ws. way_by r.scope ws) _ _ (words_more names more r.words h)
+way_more : (names more : List Text) (r : Reference) → AreBelow (length names) r.words → field_path_of (names ++ more) r ≡ field_path_of names r
+way_more names more r h = along (λ ws. field_path_by r.scope ws) _ _ (words_more names more r.words h)
 
 pub fields_more : (names more : List Text) (trees : List Ty) (fs : List FieldMeta) → FieldNamesIn (length names) fs → fields_at (names ++ more) trees fs ≡ fields_at names trees fs
 fields_more names more trees [] h = refl
@@ -51,9 +51,9 @@ shape_more names more trees (meta.Integer size align signed order map) h = refl
 shape_more names more trees (meta.Enum base labels) h = along (λ ls. Named (integer_in (tree_at trees base)) ls) _ _ (labels_more names more labels h)
 shape_more names more trees meta.Str h = refl
 shape_more names more trees (meta.Struct align fields) h = along (λ fs. Struct align fs) _ _ (fields_more names more trees fields h)
-shape_more names more trees (meta.Variant tag fields) h = along (λ w. Variant w (fields_at (names ++ more) trees fields)) _ _ (way_more names more tag h.0) ∙ along (λ fs. Variant (way_of names tag) fs) _ _ (fields_more names more trees fields h.1)
+shape_more names more trees (meta.Variant tag fields) h = along (λ w. Variant w (fields_at (names ++ more) trees fields)) _ _ (way_more names more tag h.0) ∙ along (λ fs. Variant (field_path_of names tag) fs) _ _ (fields_more names more trees fields h.1)
 shape_more names more trees (meta.Array n item) h = refl
-shape_more names more trees (meta.Sequence n item) h = along (λ w. Sequence (way_or_here w) (tree_at trees item)) _ _ (way_more names more n h)
+shape_more names more trees (meta.Sequence n item) h = along (λ w. Sequence (field_path_or_here w) (tree_at trees item)) _ _ (way_more names more n h)
 
 pub trees_more : (names more : List Text) (k : ℕ) (done : List Ty) (ts : List TypeMeta) → AreRanked (length names) k ts → trees_from (names ++ more) done ts ≡ trees_from names done ts
 trees_more names more k done [] r = refl

@@ -1,8 +1,8 @@
 pub mod Causes
-pub mod Facts
+pub mod TypeSizes
 pub mod Faults
 pub mod Names
 pub mod SameTrace
 pub mod Table
-pub mod ToldKept
+pub mod TraceMetas
 pub mod Types

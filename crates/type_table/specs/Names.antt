@@ -1,4 +1,4 @@
--- Names of fields and labels, and ways to fields (CTF 1.8, section 7.3.2; that one underscore is left out is LTTng's use).
+-- Names of fields and labels, and field paths to fields (CTF 1.8, section 7.3.2; that one underscore is left out is LTTng's use).
 use Rattle.std.specs.Prelude.{Bool, List, [], ◌∷◌, ◌++◌, Option, Some, None, codes, ◌&&◌, if◌then◌else◌, option_map}
 use Rattle.std.specs.Option.{option_map_or}
 use Rattle.tsdl_parser.specs.Symbols.{is_text}
@@ -24,7 +24,7 @@ abbrev pub behind_three : Text → Text → Text → List Text → Option (List 
 behind_three a b c (x ∷ y ∷ z ∷ rest) = if is_text x a && is_text y b && is_text z c then Some rest else None
 behind_three a b c _ = None
 
--- the scope whose words a way begins with, and the words behind it
+-- the scope whose words a field path begins with, and the words after it
 abbrev pub scope_of : List Text → Option (ScopeName × List Text)
 scope_of words =
     within PacketHeader (behind_three (codes "trace") (codes "packet") (codes "header") words)
@@ -38,7 +38,7 @@ scope_of words =
     within scope (Some rest) other = Some (scope, rest)
     within scope None other = other
 
--- the scope that words begin with, if any, and the words behind it
+-- the scope that words begin with, if any, and the words after it
 abbrev pub scope_said : List Text → Option ScopeName
 scope_said words = option_map (λ r. r.0) (scope_of words)
 

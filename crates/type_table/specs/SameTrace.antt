@@ -1,10 +1,10 @@
 -- Two representations of one trace: they keep the same types at places of their own, and all else alike (this project's own).
 use Rattle.std.specs.Prelude.{◌≡◌, ℕ, List, [], ◌∷◌, Option, option_map}
-use Rattle.type_table.specs.declared.told.EventId.{EventId}
-use Rattle.type_table.specs.declared.told.EventParts.{EventParts}
-use Rattle.type_table.specs.declared.told.StreamScopes.{StreamScopes}
+use Rattle.type_table.specs.declared.declared.EventId.{EventId}
+use Rattle.type_table.specs.declared.declared.EventParts.{EventParts}
+use Rattle.type_table.specs.declared.declared.StreamScopes.{StreamScopes}
 use Rattle.type_table.specs.Table.{Table, tree}
-use Rattle.type_table.specs.ToldKept.{MetaParts}
+use Rattle.type_table.specs.TraceMetas.{MetaParts}
 
 -- the types at two places, where there are any, are one tree
 abbrev pub IsSameType : Table → Table → Option ℕ → Option ℕ → Type 0
@@ -32,9 +32,9 @@ AreBoth P _ _ = ⊥
 
 pub record IsSameTrace (m n : MetaParts) : Type 0 where
   pub header : IsSameType m.table n.table m.packet_header n.packet_header
-  pub uuid : m.told.uuid ≡ n.told.uuid
-  pub streams : AreBoth (IsSameStream m.table n.table) m.told.streams n.told.streams
-  pub events : AreBoth (IsSameEvent m.table n.table) m.told.events n.told.events
-  pub event_names : m.told.event_names ≡ n.told.event_names
-  pub clocks : m.told.clocks ≡ n.told.clocks
-  pub hostname : m.told.hostname ≡ n.told.hostname
+  pub uuid : m.declared.uuid ≡ n.declared.uuid
+  pub streams : AreBoth (IsSameStream m.table n.table) m.declared.streams n.declared.streams
+  pub events : AreBoth (IsSameEvent m.table n.table) m.declared.events n.declared.events
+  pub event_names : m.declared.event_names ≡ n.declared.event_names
+  pub clocks : m.declared.clocks ≡ n.declared.clocks
+  pub hostname : m.declared.hostname ≡ n.declared.hostname

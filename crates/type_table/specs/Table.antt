@@ -7,10 +7,10 @@ use Rattle.type_table.specs.declared.meta.FieldMeta.{FieldMeta}
 use Rattle.type_table.specs.declared.meta.LabelMeta.{LabelMeta}
 use Rattle.type_table.specs.declared.meta.Reference.{Reference}
 use Rattle.type_table.specs.declared.meta.ScopeName.{ScopeName}
-use Rattle.type_table.specs.declared.facts.Facts.{Facts}
+use Rattle.type_table.specs.declared.type_size.TypeSize.{TypeSize}
 use Rattle.type_table.specs.declared.integer.Integer.{Integer}
-use Rattle.type_table.specs.Facts.{facts_of, AreFit}
-use Rattle.type_table.specs.Types.{Text, Label, Way, Ty, Fields, Whole, Named, Str, Struct, Variant, Array, Sequence, No, Field}
+use Rattle.type_table.specs.TypeSizes.{type_size_of, AreFit}
+use Rattle.type_table.specs.Types.{Text, Label, FieldPath, Ty, Fields, Whole, Named, Str, Struct, Variant, Array, Sequence, No, Field}
 
 pub record Table : Type 0 where
   pub names : List Text
@@ -24,17 +24,17 @@ name_at names n = get_or names n []
 abbrev pub tree_at : List Ty → ℕ → Ty
 tree_at trees n = get_or trees n Str
 
-abbrev pub way_by : Option ScopeName → List Text → Option Way
-way_by None [] = None
-way_by None (w ∷ ws) = Some (record { scope = None; names = w ∷ ws })
-way_by (Some scope) ws = Some (record { scope = Some scope; names = ws })
+abbrev pub field_path_by : Option ScopeName → List Text → Option FieldPath
+field_path_by None [] = None
+field_path_by None (w ∷ ws) = Some (record { scope = None; names = w ∷ ws })
+field_path_by (Some scope) ws = Some (record { scope = Some scope; names = ws })
 
--- a reference as a way; the empty one is none
-abbrev pub way_of : List Text → Reference → Option Way
-way_of names r = way_by r.scope (map (name_at names) r.words)
+-- a reference as a field path; the empty one is none
+abbrev pub field_path_of : List Text → Reference → Option FieldPath
+field_path_of names r = field_path_by r.scope (map (name_at names) r.words)
 
-abbrev pub way_or_here : Option Way → Way
-way_or_here way = unwrap_or way (record { scope = None; names = [] })
+abbrev pub field_path_or_here : Option FieldPath → FieldPath
+field_path_or_here field_path = unwrap_or field_path (record { scope = None; names = [] })
 
 abbrev pub fields_at : List Text → List Ty → List FieldMeta → Fields
 fields_at names trees [] = No
@@ -55,9 +55,9 @@ shape names trees (meta.Integer size align signed order map) = Whole (record { s
 shape names trees (meta.Enum base labels) = Named (integer_in (tree_at trees base)) (labels_at names labels)
 shape names trees meta.Str = Str
 shape names trees (meta.Struct align fields) = Struct align (fields_at names trees fields)
-shape names trees (meta.Variant tag fields) = Variant (way_of names tag) (fields_at names trees fields)
+shape names trees (meta.Variant tag fields) = Variant (field_path_of names tag) (fields_at names trees fields)
 shape names trees (meta.Array n item) = Array n (tree_at trees item)
-shape names trees (meta.Sequence n item) = Sequence (way_or_here (way_of names n)) (tree_at trees item)
+shape names trees (meta.Sequence n item) = Sequence (field_path_or_here (field_path_of names n)) (tree_at trees item)
 
 abbrev pub grown : List Text → List Ty → TypeMeta → List Ty
 grown names trees t = trees ++ shape names trees t ∷ []
@@ -139,7 +139,7 @@ abbrev pub AreSound : List TypeMeta → Type 0
 AreSound [] = Unit {0}
 AreSound (t ∷ ts) = IsSound t × AreSound ts
 
--- more names and types behind those that were there
+-- more names and types after those that were there
 pub record Grows (old new : Table) : Type 0 where
   pub more_names : List Text
   pub more_types : List TypeMeta
@@ -154,14 +154,14 @@ pub record Keeps (old new : Table) : Type 0 where
   pub more_types : length old.types ≤ length new.types
 
 -- a table that stands for trees
-pub record IsTable (table : Table) (facts : List Facts) : Type 0 where
+pub record IsTable (table : Table) (type_sizes : List TypeSize) : Type 0 where
   pub few_names : length table.names < 2 ^ 32
   pub ranked : AreRanked (length table.names) 0 table.types
   pub sound : AreSound table.types
   pub based : AreBased (trees table) table.types
-  pub known : facts ≡ map facts_of (trees table)
-  pub fit : AreFit facts
+  pub known : type_sizes ≡ map type_size_of (trees table)
+  pub fit : AreFit type_sizes
 
 -- a table as `Table` makes them: each type names types and names that are there, enumerations are of integers, and all limits hold
 abbrev pub IsSoundTable : Table → Type 0
-IsSoundTable t = IsTable t (map facts_of (trees t))
+IsSoundTable t = IsTable t (map type_size_of (trees t))

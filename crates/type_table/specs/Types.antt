@@ -1,5 +1,6 @@
 -- Types as trees, with what they take and how deep they go (CTF 1.8, sections 4.1 and 4.2; the limits are this project's own).
 use Rattle.std.specs.Prelude.{ℕ, ℤ, suc, ◌+◌, ◌*◌, max, min, Bool, ◌&&◌, nat_le, List, [], ◌∷◌, Option}
+pub use Rattle.trace_types.specs.declared.limits.TheConstants.{MAX_TYPE_DEPTH}
 use Rattle.type_table.specs.declared.integer.Integer.{Integer}
 use Rattle.type_table.specs.declared.meta.ScopeName.{ScopeName}
 
@@ -11,21 +12,21 @@ pub record Label : Type 0 where
   pub low : ℤ
   pub high : ℤ
 
--- a way to a field: the scope that it begins with, if any, and the names after it
-pub record Way : Type 0 where
+-- a field path to a field: the scope that it begins with, if any, and the names after it
+pub record FieldPath : Type 0 where
   pub scope : Option ScopeName
   pub names : List Text
 
--- a variant without a way to its tag can be named, and isn't a field's type
+-- a variant without a field path to its tag can be named, and isn't a field's type
 mutual
   pub data Ty : Type 0 where
     Whole : Integer → Ty
     Named : Integer → List Label → Ty
     Str : Ty
     Struct : ℕ → Fields → Ty
-    Variant : Option Way → Fields → Ty
+    Variant : Option FieldPath → Fields → Ty
     Array : ℕ → Ty → Ty
-    Sequence : Way → Ty → Ty
+    Sequence : FieldPath → Ty → Ty
 
   pub data Fields : Type 0 where
     No : Fields
@@ -68,18 +69,18 @@ abbrev mutual
 
 abbrev mutual
   -- how many types stand in a type, itself among them, each as often as it is named
-  pub parts : Ty → ℕ
-  parts (Whole i) = 1
-  parts (Named i labels) = 1
-  parts Str = 1
-  parts (Struct align fields) = suc (parts_of_all fields)
-  parts (Variant tag fields) = suc (parts_of_all fields)
-  parts (Array length item) = suc (parts item)
-  parts (Sequence length item) = suc (parts item)
+  pub nodes : Ty → ℕ
+  nodes (Whole i) = 1
+  nodes (Named i labels) = 1
+  nodes Str = 1
+  nodes (Struct align fields) = suc (nodes_of_all fields)
+  nodes (Variant tag fields) = suc (nodes_of_all fields)
+  nodes (Array length item) = suc (nodes item)
+  nodes (Sequence length item) = suc (nodes item)
 
-  pub parts_of_all : Fields → ℕ
-  parts_of_all No = 0
-  parts_of_all (Field name ty fields) = parts ty + parts_of_all fields
+  pub nodes_of_all : Fields → ℕ
+  nodes_of_all No = 0
+  nodes_of_all (Field name ty fields) = nodes ty + nodes_of_all fields
 
 -- to how many bits a value is aligned; a variant tells nothing
 abbrev pub alignment : Ty → ℕ
@@ -91,15 +92,12 @@ alignment (Variant tag fields) = 1
 alignment (Array length item) = alignment item
 alignment (Sequence length item) = alignment item
 
--- the limits of a type
-abbrev pub MAX_DEPTH : ℕ
-MAX_DEPTH = 32
-
-abbrev pub MAX_PARTS : ℕ
-MAX_PARTS = 65536
+-- how many types a type may consist of, each as often as it is named
+abbrev pub MAX_NODES : ℕ
+MAX_NODES = 65536
 
 abbrev pub fits : Ty → Bool
-fits ty = nat_le (depth ty) MAX_DEPTH && nat_le (parts ty) MAX_PARTS
+fits ty = nat_le (depth ty) MAX_TYPE_DEPTH && nat_le (nodes ty) MAX_NODES
 
 -- the fields by their names, in order
 abbrev pub fields_in : List (Text × Ty) → Fields

@@ -2,7 +2,7 @@
 #![tactic(auto)]
 
 mod cause;
-mod facts;
+mod declared;
 mod fault;
 mod few;
 mod integer;
@@ -11,11 +11,11 @@ mod meta;
 mod names;
 mod scope;
 mod table;
-mod told;
 mod trace_meta;
+mod type_size;
 
 pub use cause::MetaItemCause;
-pub use facts::{Facts, MAX_DEPTH, MAX_PARTS};
+pub use declared::{ClockRate, Declared, EventId, EventParts, StreamScopes};
 pub use fault::Fault;
 pub use integer::Integer;
 pub use laws::small_types;
@@ -23,5 +23,5 @@ pub use meta::{FieldMeta, LabelMeta, Reference, ScopeName, TypeMeta};
 pub use names::{NameKind, bare, is_same_name, spaced};
 pub use scope::split_scope;
 pub use table::Table;
-pub use told::{ClockRate, EventId, EventParts, StreamScopes, Told};
 pub use trace_meta::TraceMeta;
+pub use type_size::{MAX_NODES, TypeSize};

@@ -55,7 +55,7 @@ pub struct FieldMeta {
     pub ty: TypePlace,
 }
 
-/// A way to a field that was read before: from a scope's type where it begins with one, else from the
+/// A field path to a field that was read before: from a scope's type where it begins with one, else from the
 /// structures around it. The words are places in `names`.
 #[derive(Debug, Drop)]
 pub struct Reference {

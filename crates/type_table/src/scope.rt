@@ -5,7 +5,7 @@ ghost use Rattle.type_table.specs.Names.{behind_two, behind_three, scope_of};
 use crate::meta::ScopeName;
 use trace_types::Text;
 
-/// The scope that words begin with, and the words behind it.
+/// The scope that words begin with, and the words after it.
 pub fn split_scope(words: &[Text]) -> Option<(ScopeName, &[Text])>
     ensures found { IfSome result (λ r. scope_of words.now ≡ Some (r.0, r.1.now)) }
     ensures none { IfNone result (scope_of words.now ≡ None) }
@@ -29,7 +29,7 @@ pub fn split_scope(words: &[Text]) -> Option<(ScopeName, &[Text])>
     Some((ScopeName::EventFields, rest))
 }
 
-// The words behind these two.
+// The words after these two.
 fn behind_two<'a>(words: &'a [Text], a: &[u8], b: &[u8]) -> Option<&'a [Text]>
     ensures found { IfSome result (λ rest. behind_two a.now b.now words.now ≡ Some rest.now) }
     ensures none { IfNone result (behind_two a.now b.now words.now ≡ None) }
@@ -40,7 +40,7 @@ fn behind_two<'a>(words: &'a [Text], a: &[u8], b: &[u8]) -> Option<&'a [Text]>
     }
 }
 
-// The words behind these three.
+// The words after these three.
 fn behind_three<'a>(words: &'a [Text], a: &[u8], b: &[u8], c: &[u8]) -> Option<&'a [Text]>
     ensures found { IfSome result (λ rest. behind_three a.now b.now c.now words.now ≡ Some rest.now) }
     ensures none { IfNone result (behind_three a.now b.now c.now words.now ≡ None) }

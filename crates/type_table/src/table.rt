@@ -1,16 +1,16 @@
 //! The types of a text, each by its place, and the names that they use.
 ghost use Rattle.std.specs.Prelude.{◌≡◌, ◌<◌, ◌↔◌, ◌≤◌, ◌%◌, [], slice_get, Some, IsTrue, length, true, false, IfNone, IfOk, IfSome, OnOk};
-ghost use Rattle.type_table.specs.Facts.{facts_of};
+ghost use Rattle.type_table.specs.TypeSizes.{type_size_of};
 ghost use Rattle.type_table.specs.Faults.{OnBreak};
 ghost use Rattle.type_table.specs.Table.{FieldsIn, IsBased, IsSound, IsSoundTable, Keeps, NamesIn, RefersIn, fields_at, name_at, shape, tree, trees};
-ghost use Rattle.type_table.specs.Types.{MAX_DEPTH, MAX_PARTS, depth, fits, parts, parts_of_all, widest};
+ghost use Rattle.type_table.specs.Types.{MAX_TYPE_DEPTH, MAX_NODES, depth, fits, nodes, nodes_of_all, widest};
 ghost use Rattle.type_table.specs.declared.cause.MetaItemCause.TheVariants as causes;
 
 use crate::cause::MetaItemCause;
-use crate::facts::{Facts, facts_at, meta_facts, sum_of};
 use crate::fault::Fault;
 use crate::few::are_few;
 use crate::meta::{FieldMeta, TypeMeta};
+use crate::type_size::{TypeSize, meta_type_size, sum_of, type_size_at};
 use indexmap::IndexSet;
 use sqlite_items::Items;
 use std::alloc::Global;
@@ -22,7 +22,7 @@ use trace_types::{OutOfMemory, Text};
 pub struct Table {
     names: IndexSet<Text>,
     types: Items<TypeMeta>,
-    facts: Items<Facts>,
+    type_sizes: Items<TypeSize>,
 }
 
 impl Model for Table {
@@ -32,7 +32,7 @@ impl Model for Table {
 
     ghost view = { λ t. record { names = t.names.keys; types = t.types } };
 
-    ghost invariant = { λ t. IsTable (record { names = t.names.keys; types = t.types }) t.facts };
+    ghost invariant = { λ t. IsTable (record { names = t.names.keys; types = t.types }) t.type_sizes };
 }
 
 impl Table {
@@ -43,7 +43,7 @@ impl Table {
         Table {
             names: IndexSet::new(alloc),
             types: Items::new(alloc),
-            facts: Items::new(alloc),
+            type_sizes: Items::new(alloc),
         }
     }
 
@@ -67,12 +67,12 @@ impl Table {
     }
 
     /// What is known of a type.
-    pub fn facts(&self, place: u32) -> Facts
+    pub fn type_size(&self, place: u32) -> TypeSize
         requires { place < length self.now.types }
-        ensures known { result ≡ facts_of (tree self.now place) }
+        ensures known { result ≡ type_size_of (tree self.now place) }
         ensures aligns { (1 ≤ result.align) × (65536 % result.align ≡ 0) }
     {
-        facts_at(self.facts.as_slice(), place)
+        type_size_at(self.type_sizes.as_slice(), place)
     }
 
     /// Adds a type, whose place is the number of those before it. It is refused where it goes too deep or
@@ -89,16 +89,16 @@ impl Table {
         ensures fits { OnOk result (fits (shape self.old.names (trees self.old) meta) ≡ true) }
         ensures breaks { OnBreak (λ cause. (cause ≡ causes.BadAttribute) × (fits (shape self.old.names (trees self.old) meta) ≡ false)) result }
     {
-        let Some(facts) = meta_facts(self.facts.as_slice(), &meta) else {
+        let Some(type_sizes) = meta_type_size(self.type_sizes.as_slice(), &meta) else {
             return Err(Fault::Breaks(MetaItemCause::BadAttribute));
         };
         if !are_few(self.types.len()) {
             return Err(Fault::OutOfMemory);
         }
         let place = self.types.len() as u32;
-        self.facts.push(facts)?;
+        self.type_sizes.push(type_sizes)?;
         if self.types.push(meta).is_err() {
-            self.facts.pop();
+            self.type_sizes.pop();
             return Err(Fault::OutOfMemory);
         }
         Ok(place)
@@ -109,9 +109,9 @@ impl Table {
         requires { FieldsIn (length self.now.types) fields.now }
         ensures found { IfSome result (λ align. align ≡ widest (fields_at self.now.names (trees self.now) fields.now)) }
         ensures aligns { IfSome result (λ align. (1 ≤ align) × (65536 % align ≡ 0)) }
-        ensures none { IfNone result (MAX_PARTS < parts_of_all (fields_at self.now.names (trees self.now) fields.now)) }
+        ensures none { IfNone result (MAX_NODES < nodes_of_all (fields_at self.now.names (trees self.now) fields.now)) }
     {
-        Some(sum_of(self.facts.as_slice(), fields)?.align)
+        Some(sum_of(self.type_sizes.as_slice(), fields)?.align)
     }
 
     /// The type of a place.
@@ -155,15 +155,15 @@ impl Table {
     pub fn is_sound(&self)
         ensures { IsSoundTable self.now }
     {
-        let _ = &self.facts;
+        let _ = &self.type_sizes;
     }
 
     /// The limits hold for a type. It does nothing.
     pub fn limits(&self, place: u32)
         requires { place < length self.now.types }
-        ensures depth { depth (tree self.now place) ≤ MAX_DEPTH }
-        ensures parts { parts (tree self.now place) ≤ MAX_PARTS }
+        ensures depth { depth (tree self.now place) ≤ MAX_TYPE_DEPTH }
+        ensures nodes { nodes (tree self.now place) ≤ MAX_NODES }
     {
-        let _ = &self.facts;
+        let _ = &self.type_sizes;
     }
 }

@@ -2,10 +2,10 @@
 ghost use Rattle.std.specs.Prelude.{◌≡◌, ◌<◌, [], length, nat_eq, option_map, position, slice_get, unwrap_or, IfNone, IfSome, None, Some};
 ghost use Rattle.std.specs.Map.{keys_of, lookup};
 ghost use Rattle.type_table.specs.Table.{name_at};
-ghost use Rattle.type_table.specs.ToldKept.{IfHere, IsRate, IsSoundMeta, PlaceIn, StreamIn, EventIn, ToldIn, same_event};
+ghost use Rattle.type_table.specs.TraceMetas.{IfHere, IsRate, IsSoundMeta, PlaceIn, StreamIn, EventIn, DeclaredIn, same_event};
 
+use crate::declared::{ClockRate, Declared, EventId, EventParts, StreamScopes};
 use crate::table::Table;
-use crate::told::{ClockRate, EventId, EventParts, StreamScopes, Told};
 use std::marker::Model;
 use trace_types::{ByteOrderKind, Text};
 
@@ -16,17 +16,17 @@ pub struct TraceMeta {
     order: ByteOrderKind,
     packet_header: Option<u32>,
     table: Table,
-    told: Told,
+    declared: Declared,
 }
 
 impl Model for TraceMeta {
-    ghost use Rattle.type_table.specs.ToldKept.{MetaParts, AreInside};
+    ghost use Rattle.type_table.specs.TraceMetas.{MetaParts, AreInside};
 
     ghost Value = { MetaParts };
 
-    ghost view = { λ m. record { order = m.order; packet_header = m.packet_header; table = m.table; told = m.told } };
+    ghost view = { λ m. record { order = m.order; packet_header = m.packet_header; table = m.table; declared = m.declared } };
 
-    ghost invariant = { λ m. AreInside (record { order = m.order; packet_header = m.packet_header; table = m.table; told = m.told }) };
+    ghost invariant = { λ m. AreInside (record { order = m.order; packet_header = m.packet_header; table = m.table; declared = m.declared }) };
 }
 
 impl TraceMeta {
@@ -35,17 +35,17 @@ impl TraceMeta {
         order: ByteOrderKind,
         packet_header: Option<u32>,
         table: Table,
-        told: Told,
+        declared: Declared,
     ) -> TraceMeta
         requires header { IfHere (PlaceIn table) packet_header }
-        requires told { ToldIn table told }
-        ensures { result ≡ record { order = order; packet_header = packet_header; table = table; told = told } }
+        requires declared { DeclaredIn table declared }
+        ensures { result ≡ record { order = order; packet_header = packet_header; table = table; declared = declared } }
     {
         TraceMeta {
             order,
             packet_header,
             table,
-            told,
+            declared,
         }
     }
 
@@ -54,7 +54,7 @@ impl TraceMeta {
         ensures { IsSoundMeta self.now }
     {
         self.table.is_sound();
-        self.told.are_few();
+        self.declared.are_few();
     }
 
     /// The byte order of integers that don't tell their own.
@@ -66,16 +66,16 @@ impl TraceMeta {
 
     /// The trace's unique id.
     pub fn uuid(&self) -> Option<[u8; 16]>
-        ensures { result ≡ self.now.told.uuid }
+        ensures { result ≡ self.now.declared.uuid }
     {
-        self.told.uuid()
+        self.declared.uuid()
     }
 
-    /// The name of the host where the trace was taken; empty where none is told.
+    /// The name of the host where the trace was taken; empty where none is declared.
     pub fn hostname(&self) -> &[u8]
-        ensures { result.now ≡ unwrap_or self.now.told.hostname [] }
+        ensures { result.now ≡ unwrap_or self.now.declared.hostname [] }
     {
-        match self.told.hostname() {
+        match self.declared.hostname() {
             Some(name) => name.as_bytes(),
             None => &[],
         }
@@ -98,59 +98,59 @@ impl TraceMeta {
 
     /// The types of the scopes of the stream of an id.
     pub fn stream(&self, id: u64) -> Option<StreamScopes>
-        ensures found { result ≡ lookup (nat_eq id) self.now.told.streams }
+        ensures found { result ≡ lookup (nat_eq id) self.now.declared.streams }
     {
-        self.told.stream(id)
+        self.declared.stream(id)
     }
 
     /// The place of the event that a stream has by this id, in the order of declaration.
     pub fn find_event(&self, stream: u64, id: u64) -> Option<u32>
-        ensures { result ≡ position (same_event (record { stream = stream; id = id })) (keys_of self.now.told.events) }
+        ensures { result ≡ position (same_event (record { stream = stream; id = id })) (keys_of self.now.declared.events) }
     {
-        self.told.find_event(EventId { stream, id })
+        self.declared.find_event(EventId { stream, id })
     }
 
     /// The event at a place.
     pub fn event(&self, place: u32) -> Option<(EventId, EventParts)>
-        ensures { result ≡ slice_get self.now.told.events place }
+        ensures { result ≡ slice_get self.now.declared.events place }
     {
-        self.told.event(place)
+        self.declared.event(place)
     }
 
     /// How the clock at a place counts.
     pub fn clock(&self, place: u32) -> Option<ClockRate>
-        ensures found { result ≡ option_map (λ clock. clock.1) (slice_get self.now.told.clocks place) }
+        ensures found { result ≡ option_map (λ clock. clock.1) (slice_get self.now.declared.clocks place) }
         ensures rate { IfSome result IsRate }
     {
-        self.told.clock(place)
+        self.declared.clock(place)
     }
 
     /// The event's name of this number.
     pub fn event_name(&self, number: u32) -> Option<&[u8]>
-        ensures found { IfSome result (λ name. slice_get self.now.told.event_names number ≡ Some name.now) }
-        ensures none { IfNone result (slice_get self.now.told.event_names number ≡ None) }
+        ensures found { IfSome result (λ name. slice_get self.now.declared.event_names number ≡ Some name.now) }
+        ensures none { IfNone result (slice_get self.now.declared.event_names number ≡ None) }
     {
-        self.told.event_name_at(number)
+        self.declared.event_name_at(number)
     }
 
     /// How many streams are declared.
     pub fn stream_count(&self) -> usize
-        ensures { result ≡ length self.now.told.streams }
+        ensures { result ≡ length self.now.declared.streams }
     {
-        self.told.stream_count()
+        self.declared.stream_count()
     }
 
     /// How many events are declared.
     pub fn event_count(&self) -> usize
-        ensures { result ≡ length self.now.told.events }
+        ensures { result ≡ length self.now.declared.events }
     {
-        self.told.event_count()
+        self.declared.event_count()
     }
 
     /// How many clocks are declared.
     pub fn clock_count(&self) -> usize
-        ensures { result ≡ length self.now.told.clocks }
+        ensures { result ≡ length self.now.declared.clocks }
     {
-        self.told.clocks().len()
+        self.declared.clocks().len()
     }
 }

@@ -1,6 +1,6 @@
 use Rattle.std.proofs.Common.{◌≡◌, ◌+◌, ◌≤◌, drop, take}
 use Rattle.std.specs.List.{AllByRecursion}
-use Rattle.trace_types.specs.Limits.{MAX_EVENTS}
+use Rattle.trace_types.specs.declared.limits.TheConstants.{MAX_EVENTS}
 use Rattle.decode_pool.specs.Limits.{AreHosts, HasSmallFiles, event_count}
 use Rattle.decode_pool.proofs.all.decode_hosts.Given as goal
 

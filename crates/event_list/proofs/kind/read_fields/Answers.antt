@@ -1,7 +1,7 @@
 use Rattle.event_list.proofs.kind.read_fields.Goals as goal
 
-pub returns-in_err-read_loss-in-Lost-clause-none : goal.returns-in_err-read_loss-in-Lost-clause-none
-returns-in_err-read_loss-in-Lost-clause-none c = rw (c.from_residual-in_err-read_loss-in-Lost.ensures, c.in-Lost.is) c.in_err-read_loss-in-Lost.ensures.none
+pub returns-in_err-read_lost-in-Lost-clause-none : goal.returns-in_err-read_lost-in-Lost-clause-none
+returns-in_err-read_lost-in-Lost-clause-none c = rw (c.from_residual-in_err-read_lost-in-Lost.ensures, c.in-Lost.is) c.in_err-read_lost-in-Lost.ensures.none
 
 pub returns-in_err-read_switch-in-Switch-clause-none : goal.returns-in_err-read_switch-in-Switch-clause-none
 returns-in_err-read_switch-in-Switch-clause-none c = rw (c.from_residual.ensures, c.in-Switch.is) c.in_err-read_switch-in-Switch.ensures.none

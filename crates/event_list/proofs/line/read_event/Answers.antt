@@ -9,7 +9,7 @@ pub returns-in_default-read_place-clause-none : goal.returns-in_default-read_pla
 returns-in_default-read_place-clause-none c = no_place_there c.args.words.now c.in_default-read_place.ensures.none
 
 pub returns-in_default-2-clause-none : goal.returns-in_default-2-clause-none
-returns-in_default-2-clause-none c = no_kind_there c.args.words.now c.in-len4-up.len_at_least (at_none _ _ c.in_default-2.is c.in_ok-told.ensures.none)
+returns-in_default-2-clause-none c = no_kind_there c.args.words.now c.in-len4-up.len_at_least (at_none _ _ c.in_default-2.is c.in_ok-parsed.ensures.none)
 
 pub returns-clause-found : goal.returns-clause-found
-returns-clause-found c = line_there c.args.words.now c.in-Some.place _ c.in-len4-up.len_at_least c.in-Some.ensures.found (at_some _ _ _ c.in-Some-2.is c.in_ok-told.ensures.found)
+returns-clause-found c = line_there c.args.words.now c.in-Some.place _ c.in-len4-up.len_at_least c.in-Some.ensures.found (at_some _ _ _ c.in-Some-2.is c.in_ok-parsed.ensures.found)

@@ -1,5 +1,5 @@
 use Rattle.std.proofs.Common.{◌≡◌, ◌++◌, drop, map}
-use Rattle.known_types.specs.Traces.{trace}
+use Rattle.type_scope.specs.Traces.{trace}
 use Rattle.hosttrace.specs.Hosts.{host_lines}
 use Rattle.hosttrace.proofs.hosts.check_text.Given as goal
 

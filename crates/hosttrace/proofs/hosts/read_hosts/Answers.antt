@@ -1,6 +1,6 @@
 use Rattle.std.proofs.Common.{◌≡◌, ◌∷◌, [], ◌++◌, ◌+◌, map, drop, sym, subst, rules}
 use Rattle.std.proofs.lemmas.List.{drop_all, drop_more, map-append}
-use Rattle.known_types.specs.Traces.{trace}
+use Rattle.type_scope.specs.Traces.{trace}
 use Rattle.hosttrace.proofs.Left.{HostsLeft, next_host, no_host}
 use Rattle.hosttrace.proofs.hosts.read_hosts.Goals as goal
 

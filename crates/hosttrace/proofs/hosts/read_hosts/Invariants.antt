@@ -1,5 +1,5 @@
 use Rattle.std.proofs.Common.{map}
-use Rattle.known_types.specs.Traces.{trace}
+use Rattle.type_scope.specs.Traces.{trace}
 use Rattle.hosttrace.proofs.Left.{HostsLeft}
 use Rattle.hosttrace.proofs.hosts.read_hosts.Given as goal
 

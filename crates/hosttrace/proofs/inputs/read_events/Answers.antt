@@ -1,5 +1,5 @@
 use Rattle.std.proofs.Common.{◌≡◌, ◌<◌, length, ap, subst, Err, rules}
-use Rattle.trace_types.specs.Limits.{MAX_EVENTS}
+use Rattle.trace_types.specs.declared.limits.TheConstants.{MAX_EVENTS}
 use Rattle.event_list.specs.Lines.{IsCrowded, IsEventList, IsFirstBad}
 use Rattle.hosttrace.specs.Statuses.{list_status}
 use Rattle.hosttrace.proofs.Refused.{at_err, list_fails, is_merge}
@@ -10,10 +10,10 @@ returns-in_err-read_list-clause-fails g c =
     let whole : c.deref.result.now ≡ c.in_ok-bytes.bytes.items = search rules in
     at_err c.from_residual-in_err-read_list.result (λ status. status ≡ list_status c.in_err-read_list.field-0.0) _ c.from_residual-in_err-read_list.ensures.1
     (λ status e. list_fails (g.S.Store.holds c.args.store.now) c.in_ok-bytes.bytes.items c.args.file.now _ _ c.in_err-read_list.field-0.0 status e c.in_ok-bytes.ensures.bytes c.in_ok-bytes.ensures.small
-    (λ line e tolds. subst (λ b. ¬ (IsEventList b tolds)) whole (c.in_err-read_list.ensures.bad line (ap Err e) tolds))
+    (λ line e parsed_lines. subst (λ b. ¬ (IsEventList b parsed_lines)) whole (c.in_err-read_list.ensures.bad line (ap Err e) parsed_lines))
     (λ line e. subst (λ b. IsFirstBad b line) whole (c.in_err-read_list.ensures.line line (ap Err e)))
     (λ e. subst IsCrowded whole (c.in_err-read_list.ensures.many (ap Err e)))
-    (λ e tolds. subst (λ b. IsEventList b tolds → MAX_EVENTS < length tolds) whole (c.in_err-read_list.ensures.all (ap Err e) tolds)))
+    (λ e parsed_lines. subst (λ b. IsEventList b parsed_lines → MAX_EVENTS < length parsed_lines) whole (c.in_err-read_list.ensures.all (ap Err e) parsed_lines)))
 
 pub returns-clause-merge : goal.returns-clause-merge
 returns-clause-merge g c = is_merge c.deref.result.now c.in_ok-read_list.ensures.list.0 c.in_ok-read_list.field-0 c.in_ok-read_list.ensures.list.1 c.in_ok-read_list.ensures.list.2

@@ -1,7 +1,7 @@
 use Rattle.std.proofs.Common.{◌≡◌, ◌≤◌, ◌+◌, take, sym, subst, ◌∙◌, arith}
 use native.Mathlib.Decide.{ℕ_discrete}
 use mathlib.Core.Logic.{dite}
-use Rattle.tsdl_parser.specs.Reading.{MAX_DEPTH}
+use Rattle.tsdl_parser.specs.Reading.{MAX_BRACES}
 use Rattle.tsdl_parser.specs.Depth.{opened, opened_by}
 use Rattle.tsdl_parser.proofs.Reading.{opened_more}
 use Rattle.tsdl_parser.proofs.text.first_too_deep.Goals as goal
@@ -14,10 +14,10 @@ loop-place-preserved c =
     let inside = c.loop-place-test.true in
     let so_far = c.loop-place.invariant in
     let next : c.opened_by-depth.result ≡ opened (take (place + 1) tokens) = c.opened_by-depth.ensures ∙ (λ i. opened_by (so_far.1 i) (c.symbol_of.ensures i)) ∙ sym (opened_more tokens place token inside) in
-    let few = c.if-depth-gt-MAX_DEPTH.false in (
+    let few = c.if-depth-gt-MAX_BRACES.false in (
       omega (arith, inside),
       next,
       λ n within. dite (ℕ_discrete n (place + 1))
-          (λ last. subst (λ m. opened (take m tokens) ≤ MAX_DEPTH) (sym last) (subst (λ d. d ≤ MAX_DEPTH) next (omega (arith, few))))
+          (λ last. subst (λ m. opened (take m tokens) ≤ MAX_BRACES) (sym last) (subst (λ d. d ≤ MAX_BRACES) next (omega (arith, few))))
           (λ earlier. so_far.2 n (omega (arith, within, earlier))),
     )

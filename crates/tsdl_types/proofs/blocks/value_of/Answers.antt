@@ -1,6 +1,6 @@
 use Rattle.std.proofs.Common.{subst, sym}
-use Rattle.known_types.specs.Known.{Does}
-use Rattle.known_types.specs.View.{state}
+use Rattle.type_scope.specs.TypeScopes.{Does}
+use Rattle.type_scope.specs.View.{state}
 use Rattle.tsdl_types.specs.Blocks.{value_by}
 use Rattle.tsdl_types.proofs.blocks.value_of.Goals as goal
 

@@ -1,5 +1,5 @@
 use Rattle.std.proofs.Common.{◌≡◌, drop}
-use Rattle.known_types.specs.Said.{value_named}
+use Rattle.type_scope.specs.Said.{value_named}
 use Rattle.tsdl_types.specs.Blocks.{attrs_in}
 use Rattle.tsdl_types.proofs.entries.value_in.Given as goal
 

@@ -1,7 +1,7 @@
 use Rattle.std.proofs.Common.{◌∙◌, ◌+◌, get_or, rules, ap, sym}
 use Rattle.std.proofs.lemmas.List.{drop_more}
 use Rattle.tsdl_types.specs.Items.{declared_from}
-use Rattle.known_types.specs.View.{Kept, state}
+use Rattle.type_scope.specs.View.{Kept, state}
 use Rattle.tsdl_types.proofs.Refused.{refuses}
 use Rattle.tsdl_types.proofs.items.declare_types.Goals as goal
 

@@ -1,6 +1,6 @@
 use Rattle.std.proofs.Common.{◌≡◌, ◌+◌, drop}
 use Rattle.tsdl_types.specs.Items.{declared_in, declared_from}
-use Rattle.known_types.specs.View.{state}
+use Rattle.type_scope.specs.View.{state}
 use Rattle.tsdl_types.proofs.items.declare_types.Given as goal
 
 abbrev pub invariant-loop-at : goal.invariant-loop-at

@@ -1,6 +1,6 @@
 use Rattle.std.proofs.Common.{◌≡◌, drop}
 use Rattle.tsdl_types.specs.Blocks.{entries_from}
-use Rattle.known_types.specs.View.{state}
+use Rattle.type_scope.specs.View.{state}
 use Rattle.tsdl_types.proofs.whole_blocks.entries_behind.Given as goal
 
 abbrev pub invariant-loop-at : goal.invariant-loop-at

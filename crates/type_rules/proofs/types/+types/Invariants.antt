@@ -1,6 +1,6 @@
 use Rattle.std.proofs.Common.{◌≡◌, ◌+◌, ◌-◌, ◌*◌, drop}
 use Rattle.type_rules.specs.Typing.{each, field, fields_within}
-use Rattle.known_types.specs.View.{state}
+use Rattle.type_scope.specs.View.{state}
 use Rattle.type_rules.proofs.types.+types.Given as goal
 
 abbrev pub decreases-fields : goal.decreases-fields
@@ -28,4 +28,4 @@ abbrev pub decreases-field : goal.decreases-field
 decreases-field l = 8 * l.depth + 5
 
 abbrev pub invariant-fields-loop-tree : goal.invariant-fields-loop-tree
-invariant-fields-loop-tree l = fields_within l.fn.depth l.fn.around l.body (state l.fn.types).known ≡ each (field (fields_within (l.fn.depth - 1) l.fn.around) l.fn.around) (drop l.tree-index l.body) (state l.types).known
+invariant-fields-loop-tree l = fields_within l.fn.depth l.fn.block_context l.body (state l.fn.types).known ≡ each (field (fields_within (l.fn.depth - 1) l.fn.block_context) l.fn.block_context) (drop l.tree-index l.body) (state l.types).known

@@ -1,4 +1,4 @@
-use Rattle.known_types.specs.Said.{same_words}
+use Rattle.type_scope.specs.Said.{same_words}
 use Rattle.type_rules.proofs.Noted.{kept, stood}
 use Rattle.type_rules.proofs.seen.SeenPaths.note.Goals as goal
 

@@ -11,8 +11,8 @@ returns-in-Some-clause-named c =
 
 pub invariant_of-self-2 : goal.invariant_of-self-2
 invariant_of-self-2 c =
-    let keeps = keeps_name c.self.inside.names.keys c.self.inside.types c.self.inside.facts c.in_ok-name.name (search rules) c.self.invariant in
-    subst (λ names. IsTable (record { names = names; types = c.self.inside.types }) c.self.inside.facts) (sym c.in_ok-insert_full.ensures.keys) keeps
+    let keeps = keeps_name c.self.inside.names.keys c.self.inside.types c.self.inside.type_sizes c.in_ok-name.name (search rules) c.self.invariant in
+    subst (λ names. IsTable (record { names = names; types = c.self.inside.types }) c.self.inside.type_sizes) (sym c.in_ok-insert_full.ensures.keys) keeps
 
 pub returns-clause-keeps : goal.returns-clause-keeps
 returns-clause-keeps c =

@@ -2,19 +2,19 @@ use Rattle.std.proofs.Common.{rules, ◌≡◌, ◌++◌, ◌∷◌, [], sym, tr
 use Rattle.type_table.proofs.Tables.{facts_refer, fits_by, grows_type, keeps, keeps_type, tree_pushed, within_push}
 use Rattle.type_table.proofs.table.Table.push.Goals as goal
 
-pub meta_facts-requires : goal.meta_facts-requires
-meta_facts-requires c =
-    let refer = facts_refer c.self.inside.names.keys c.self.inside.types c.self.inside.facts c.args.meta c.self.invariant (search rules) in
+pub meta_type_size-requires : goal.meta_type_size-requires
+meta_type_size-requires c =
+    let refer = facts_refer c.self.inside.names.keys c.self.inside.types c.self.inside.type_sizes c.args.meta c.self.invariant (search rules) in
     search rules
 
 pub returns-in_default-clause-breaks : goal.returns-in_default-clause-breaks
 returns-in_default-clause-breaks c =
-    let fits = fits_by c.self.inside.names.keys c.self.inside.types c.self.inside.facts c.args.meta false c.self.invariant (search rules) (search rules) (search rules) in
+    let fits = fits_by c.self.inside.names.keys c.self.inside.types c.self.inside.type_sizes c.args.meta false c.self.invariant (search rules) (search rules) (search rules) in
     search rules
 
 pub invariant_of-self-else-is_err : goal.invariant_of-self-else-is_err
 invariant_of-self-else-is_err c =
-    let keeps = keeps_type c.self.inside.names.keys c.self.inside.types c.self.inside.facts c.args.meta c.in-Some.facts c.self.invariant (search rules) (search rules) (search rules) (search rules) (search rules) (search rules) in
+    let keeps = keeps_type c.self.inside.names.keys c.self.inside.types c.self.inside.type_sizes c.args.meta c.in-Some.type_sizes c.self.invariant (search rules) (search rules) (search rules) (search rules) (search rules) (search rules) in
     search rules
 
 pub returns-clause-keeps : goal.returns-clause-keeps
@@ -32,5 +32,5 @@ returns-clause-place c =
 
 pub returns-clause-fits : goal.returns-clause-fits
 returns-clause-fits c =
-    let fits = fits_by c.self.inside.names.keys c.self.inside.types c.self.inside.facts c.args.meta true c.self.invariant (search rules) (search rules) (search rules) in
+    let fits = fits_by c.self.inside.names.keys c.self.inside.types c.self.inside.type_sizes c.args.meta true c.self.invariant (search rules) (search rules) (search rules) in
     search rules

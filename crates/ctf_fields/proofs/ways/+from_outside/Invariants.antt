@@ -1,5 +1,0 @@
-use Rattle.std.proofs.Common.{length}
-use Rattle.ctf_fields.proofs.ways.+from_outside.Given as goal
-
-abbrev pub decreases-from_outside : goal.decreases-from_outside
-decreases-from_outside l = length l.around.now

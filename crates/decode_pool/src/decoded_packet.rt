@@ -1,0 +1,118 @@
+//! The pieces of a file with what they hold.
+ghost use Rattle.std.specs.Prelude.{◌≡◌, ◌≤◌, ◌^◌, Err, IfOk, length};
+ghost use Rattle.kernel_layout.specs.Tracepoints.{layout_of};
+ghost use Rattle.packet_decoder.specs.Pieces.{LiesIn, PieceLiesIn};
+ghost use Rattle.packet_decoder.specs.declared.failure.Failure.TheVariants as failure;
+ghost use Rattle.trace_types.specs.declared.cause.Cause.{Cause};
+ghost use Rattle.decode_pool.specs.Parts.{part_of, part_of_packet};
+ghost use Rattle.decode_pool.specs.declared.decoded_packet.DecodedPacket.TheVariants as part;
+
+use kernel_layout::{Layout, kind_of};
+use packet_decoder::{Counter, EventReader, Failure, PacketSpan, Piece};
+use sqlite_items::Items;
+use std::alloc::Global;
+use trace_types::{Cause, Event, OutOfMemory};
+use type_table::TraceMeta;
+
+/// A packet that was accepted: the processor that wrote it, its number and its count of lost events, its events with
+/// the host's own times, and how many of these lack a field that their names call for.
+#[derive(Debug, Drop)]
+pub struct AcceptedPacket {
+    pub cpu: u32,
+    pub seq: Option<Counter>,
+    pub discarded: Option<Counter>,
+    pub events: Items<Event>,
+    pub incomplete: u64,
+}
+
+/// A piece of a file: a packet that was accepted, or one that was refused, or the rest of the file, from this byte on.
+#[derive(Debug, Drop)]
+pub enum DecodedPacket {
+    Accepted(AcceptedPacket),
+    Refused { offset: u64, cause: Cause },
+}
+
+/// What a piece of a file holds. `layout` is that of the trace.
+#[tactic(auto, unfolding(crate::specs::Parts::part_of))]
+pub fn part_of(
+    alloc: Global,
+    host: u32,
+    meta: &TraceMeta,
+    layout: &Layout,
+    file: &[u8],
+    piece: &Piece,
+) -> Result<DecodedPacket, OutOfMemory>
+    requires layout { layout.now ≡ layout_of meta.now }
+    requires file { length file.now ≤ 2 ^ 60 }
+    requires piece { PieceLiesIn file.now piece.now }
+    ensures { IfOk result (λ part. part ≡ part_of host meta.now file.now piece.now) }
+{
+    match piece {
+        Piece::Packet(span) => part_of_packet(alloc, host, meta, layout, file, span),
+        Piece::Bad { offset, cause } => Ok(DecodedPacket::Refused {
+            offset: *offset,
+            cause: *cause,
+        }),
+    }
+}
+
+fn part_of_packet(
+    alloc: Global,
+    host: u32,
+    meta: &TraceMeta,
+    layout: &Layout,
+    file: &[u8],
+    span: &PacketSpan,
+) -> Result<DecodedPacket, OutOfMemory>
+    requires layout { layout.now ≡ layout_of meta.now }
+    requires file { length file.now ≤ 2 ^ 60 }
+    requires span { LiesIn file.now span.now }
+    ensures { IfOk result (λ part. part ≡ part_of_packet host meta.now file.now span.now) }
+{
+    match accept_packet(alloc, host, meta, layout, file, span) {
+        Ok(kept) => Ok(DecodedPacket::Accepted(kept)),
+        Err(Failure::Refused(cause)) => Ok(DecodedPacket::Refused {
+            offset: span.offset,
+            cause,
+        }),
+        Err(Failure::OutOfMemory) => Err(OutOfMemory),
+    }
+}
+
+// A packet with its events, of which each is made a kernel event as it is read, so that its fields' memory is used again.
+fn accept_packet(
+    alloc: Global,
+    host: u32,
+    meta: &TraceMeta,
+    layout: &Layout,
+    file: &[u8],
+    span: &PacketSpan,
+) -> Result<AcceptedPacket, Failure>
+    requires layout { layout.now ≡ layout_of meta.now }
+    requires file { length file.now ≤ 2 ^ 60 }
+    requires span { LiesIn file.now span.now }
+    ensures kept { IfOk result (λ k. part_of_packet host meta.now file.now span.now ≡ part.Accepted k) }
+    ensures refused { (cause : Cause) → result ≡ Err (failure.Refused cause) → part_of_packet host meta.now file.now span.now ≡ part.Refused span.now.offset cause }
+{
+    let mut reader = EventReader::open(alloc, meta, file, span)?;
+    let mut events = Items::new(alloc);
+    let mut incomplete = 0u64;
+    while let Some(raw) = reader.next_event(alloc)? {
+        let (kind, lacks) = kind_of(meta, layout, &raw);
+        events.push(Event {
+            time: raw.time,
+            host,
+            cpu: raw.cpu,
+            kind,
+        })?;
+        incomplete += u64::from(lacks);
+        reader.recycle(raw.fields);
+    }
+    Ok(AcceptedPacket {
+        cpu: span.cpu,
+        seq: span.seq,
+        discarded: span.discarded,
+        events,
+        incomplete,
+    })
+}

@@ -1,9 +1,0 @@
-pub mod Frames
-pub mod Inside
-pub mod Laters
-pub mod Named
-pub mod Nearest
-pub mod Pushes
-pub mod Rechecks
-pub mod Telling
-pub mod Views

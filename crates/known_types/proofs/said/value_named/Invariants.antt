@@ -1,6 +1,0 @@
-use Rattle.std.proofs.Common.{◌≡◌, drop}
-use Rattle.known_types.specs.Said.{value_named}
-use Rattle.known_types.proofs.said.value_named.Given as goal
-
-abbrev pub invariant-loop-attr : goal.invariant-loop-attr
-invariant-loop-attr l = value_named l.name (drop l.attr-index l.attrs) ≡ value_named l.name l.attrs

@@ -1,0 +1,9 @@
+pub mod Frames
+pub mod Inside
+pub mod DeferredPaths
+pub mod Named
+pub mod Nearest
+pub mod Pushes
+pub mod Rechecks
+pub mod Declaring
+pub mod Views

@@ -1,0 +1,12 @@
+pub mod Ahead
+pub mod BlockContexts
+pub mod Following
+pub mod TypeScopes
+pub mod Labels
+pub mod Rechecked
+pub mod References
+pub mod Said
+pub mod Declaring
+pub mod Traces
+pub mod Uses
+pub mod View

@@ -1,9 +1,0 @@
-use Rattle.std.proofs.Common.{rules}
-use Rattle.indexmap.proofs.CallerLemmas.{insert_entry-new}
-use Rattle.type_table.specs.ToldKept.{same_event}
-use Rattle.type_table.proofs.told.Told.add_event.Goals as goal
-
-pub returns-clause-ok : goal.returns-clause-ok
-returns-clause-ok c =
-    let new = insert_entry-new same_event c.self.inside.events c.args.event c.args.parts (search rules) in
-    search rules
