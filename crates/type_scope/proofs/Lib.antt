@@ -4,6 +4,7 @@ pub mod DeferredPaths
 pub mod Named
 pub mod Nearest
 pub mod Pushes
+pub mod Quiet
 pub mod Rechecks
 pub mod Declaring
 pub mod Views

@@ -7,7 +7,7 @@ use Rattle.type_table.specs.declared.type_size.Sum.{Sum}
 use Rattle.type_table.specs.declared.meta.TypeMeta.{TypeMeta}
 use Rattle.type_table.specs.declared.meta.TypeMeta.TheVariants as meta
 use Rattle.type_table.specs.declared.meta.FieldMeta.{FieldMeta}
-use Rattle.type_table.specs.Types.{Text, FieldPath, Label, Ty, Fields, Field, Str, No, Whole, Named, Struct, Variant, Array, Sequence, alignment, depth, nodes, least_bits, depth_of_all, nodes_of_all, least_of_all, least_of_one, widest}
+use Rattle.type_table.specs.Types.{Text, FieldPath, Label, Ty, Fields, Field, Str, No, Whole, Named, Struct, Variant, Array, Sequence, alignment, depth, nodes, least_bits, depth_of_all, nodes_of_all, least_of_all, least_of_one, widest, has_paths, any_has_paths}
 use Rattle.type_table.specs.TypeSizes.{type_size_of, type_size_at, no_sum, summed, sum_from, meta_type_size, is_none, leaf}
 use Rattle.type_table.specs.Table.{tree_at, fields_at, shape, FieldsIn, RefersIn, IsBased, IsWhole, integer_in, field_path_of, labels_at}
 
@@ -34,11 +34,11 @@ or_assoc : (a b c : Bool) → ((a || b) || c) ≡ (a || (b || c))
 or_assoc true b c = refl
 or_assoc false b c = refl
 
-abbrev the_facts : ℕ → ℕ → ℕ → Bool → TypeSize
-the_facts a d p e = record { align = a; depth = d; nodes = p; may_be_empty = e }
+abbrev the_size : ℕ → ℕ → ℕ → Bool → Bool → TypeSize
+the_size a d n e p = record { align = a; depth = d; nodes = n; may_be_empty = e; has_paths = p }
 
 abbrev around_list : ℕ → TypeSize → TypeSize
-around_list n f = the_facts f.align (suc f.depth) (suc f.nodes) (nat_eq n 0 || f.may_be_empty)
+around_list n f = the_size f.align (suc f.depth) (suc f.nodes) (nat_eq n 0 || f.may_be_empty) f.has_paths
 
 pub record IsSum (s : Sum) (fs : Fields) (r : Sum) : Type 0 where
   pub align : r.align ≡ max s.align (widest fs)
@@ -46,6 +46,7 @@ pub record IsSum (s : Sum) (fs : Fields) (r : Sum) : Type 0 where
   pub nodes : r.nodes ≡ s.nodes + nodes_of_all fs
   pub all_empty : r.all_empty ≡ (s.all_empty && all_empty_in fs)
   pub any_empty : r.any_empty ≡ (s.any_empty || any_empty_in fs)
+  pub any_paths : r.any_paths ≡ (s.any_paths || any_has_paths fs)
 
 sum_zero : (a b : ℕ) → nat_eq (a + b) 0 ≡ (nat_eq a 0 && nat_eq b 0)
 sum_zero zero b = along (λ n. nat_eq n 0) (0 + b) b (omega arith)
@@ -74,7 +75,7 @@ one_zero m No = sym (or_false (nat_eq m 0))
 one_zero m (Field name ty fs) = one_zero (min m (least_bits ty)) fs ∙ along (λ b. b || any_empty_in fs) _ _ (min_zero m (least_bits ty)) ∙ or_assoc (nat_eq m 0) (nat_eq (least_bits ty) 0) (any_empty_in fs)
 
 pub is_sum : (names : List Text) (ts : List Ty) (s : Sum) (fs : List FieldMeta) → FieldsIn (length ts) fs → 1 ≤ s.align → IsSum s (fields_at names ts fs) (sum_from (map type_size_of ts) s fs)
-is_sum names ts s [] h a = record { align = omega (arith, a); depth = omega arith; nodes = omega arith; all_empty = and_true s.all_empty; any_empty = or_false s.any_empty }
+is_sum names ts s [] h a = record { align = omega (arith, a); depth = omega arith; nodes = omega arith; all_empty = and_true s.all_empty; any_empty = or_false s.any_empty; any_paths = or_false s.any_paths }
   where
     and_true : (b : Bool) → b ≡ (b && true)
     and_true true = refl
@@ -92,10 +93,11 @@ is_sum names ts s (f ∷ fs) h a =
       nodes = omega (arith, rest.nodes);
       all_empty = rest.all_empty ∙ and_assoc s.all_empty _ _;
       any_empty = rest.any_empty ∙ or_assoc s.any_empty _ _;
+      any_paths = rest.any_paths ∙ or_assoc s.any_paths _ _;
     })
 
-facts_same : (a d p : ℕ) (e : Bool) (a2 d2 p2 : ℕ) (e2 : Bool) → a ≡ a2 → d ≡ d2 → p ≡ p2 → e ≡ e2 → the_facts a d p e ≡ the_facts a2 d2 p2 e2
-facts_same a d p e a2 d2 p2 e2 h i j k = along (λ x. the_facts x d p e) _ _ h ∙ along (λ x. the_facts a2 x p e) _ _ i ∙ along (λ x. the_facts a2 d2 x e) _ _ j ∙ along (λ x. the_facts a2 d2 p2 x) _ _ k
+size_same : (a d n : ℕ) (e p : Bool) (d2 n2 : ℕ) (e2 p2 : Bool) → d ≡ d2 → n ≡ n2 → e ≡ e2 → p ≡ p2 → the_size a d n e p ≡ the_size a d2 n2 e2 p2
+size_same a d n e p d2 n2 e2 p2 i j k l = along (λ x. the_size a x n e p) _ _ i ∙ along (λ x. the_size a d2 x e p) _ _ j ∙ along (λ x. the_size a d2 n2 x p) _ _ k ∙ along (λ x. the_size a d2 n2 e2 x) _ _ l
 
 any_or_none : (names : List Text) (ts : List Ty) (tag : Option FieldPath) (fs : List FieldMeta) → (is_none fs || any_empty_in (fields_at names ts fs)) ≡ nat_eq (least_bits (Variant tag (fields_at names ts fs))) 0
 any_or_none names ts tag [] = refl
@@ -117,9 +119,9 @@ factual names ts (meta.Enum base labels) h b = along (λ f. leaf f.align f.may_b
 factual names ts meta.Str h b = refl
 factual names ts (meta.Struct align fields) h b =
     let sum = is_sum names ts no_sum fields h (omega arith) in
-    facts_same align _ _ _ align _ _ _ refl (omega (arith, sum.depth)) (omega (arith, sum.nodes)) (sum.all_empty ∙ sym (all_zero (fields_at names ts fields)))
+    size_same align _ _ _ _ _ _ _ _ (omega (arith, sum.depth)) (omega (arith, sum.nodes)) (sum.all_empty ∙ sym (all_zero (fields_at names ts fields))) sum.any_paths
 factual names ts (meta.Variant tag fields) h b =
     let sum = is_sum names ts no_sum fields h (omega arith) in
-    facts_same 1 _ _ _ 1 _ _ _ refl (omega (arith, sum.depth)) (omega (arith, sum.nodes)) (along (λ e. is_none fields || e) _ _ sum.any_empty ∙ any_or_none names ts (field_path_of names tag) fields)
-factual names ts (meta.Array n item) h b = along (λ f. around_list n f) _ _ (facts_known ts item h) ∙ along (the_facts (alignment (tree_at ts item)) (suc (depth (tree_at ts item))) (suc (nodes (tree_at ts item)))) _ _ (sym (product_zero n (least_bits (tree_at ts item))))
-factual names ts (meta.Sequence n item) h b = along (λ f. the_facts f.align (suc f.depth) (suc f.nodes) true) _ _ (facts_known ts item h)
+    size_same 1 _ _ _ _ _ _ _ _ (omega (arith, sum.depth)) (omega (arith, sum.nodes)) (along (λ e. is_none fields || e) _ _ sum.any_empty ∙ any_or_none names ts (field_path_of names tag) fields) refl
+factual names ts (meta.Array n item) h b = along (λ f. around_list n f) _ _ (facts_known ts item h) ∙ along (λ e. the_size (alignment (tree_at ts item)) (suc (depth (tree_at ts item))) (suc (nodes (tree_at ts item))) e (has_paths (tree_at ts item))) _ _ (sym (product_zero n (least_bits (tree_at ts item))))
+factual names ts (meta.Sequence n item) h b = along (λ f. the_size f.align (suc f.depth) (suc f.nodes) true true) _ _ (facts_known ts item h)

@@ -228,7 +228,7 @@ both_hold false b h = absurd (cc)
 -- every type is within the limits
 pub limited : (names : List Text) (types : List TypeMeta) (type_sizes : List TypeSize) (n : ℕ) → IsTable (of names types) type_sizes → n < length types → (depth (tree (of names types) n) ≤ MAX_TYPE_DEPTH) × (nodes (tree (of names types) n) ≤ MAX_NODES)
 limited names types type_sizes n table h =
-    let here = fit_at type_sizes n (record { align = 0; depth = 0; nodes = 0; may_be_empty = false }) (facts_count names types type_sizes n table h) table.fit in
+    let here = fit_at type_sizes n (record { align = 0; depth = 0; nodes = 0; may_be_empty = false; has_paths = false }) (facts_count names types type_sizes n table h) table.fit in
     let same = along are_fit _ _ (sym (facts_stand names types type_sizes n table h)) ∙ here in
     let both = both_hold (nat_le (depth (tree (of names types) n)) MAX_TYPE_DEPTH) (nat_le (nodes (tree (of names types) n)) MAX_NODES) same in
     (leb-true _ _ both.0, leb-true _ _ both.1)

@@ -1,5 +1,5 @@
 -- Types as trees, with what they take and how deep they go (CTF 1.8, sections 4.1 and 4.2; the limits are this project's own).
-use Rattle.std.specs.Prelude.{ℕ, ℤ, suc, ◌+◌, ◌*◌, max, min, Bool, ◌&&◌, nat_le, List, [], ◌∷◌, Option}
+use Rattle.std.specs.Prelude.{ℕ, ℤ, suc, ◌+◌, ◌*◌, max, min, Bool, true, false, ◌&&◌, ◌||◌, nat_le, List, [], ◌∷◌, Option}
 pub use Rattle.trace_types.specs.declared.limits.TheConstants.{MAX_TYPE_DEPTH}
 use Rattle.type_table.specs.declared.integer.Integer.{Integer}
 use Rattle.type_table.specs.declared.meta.ScopeName.{ScopeName}
@@ -81,6 +81,21 @@ abbrev mutual
   pub nodes_of_all : Fields → ℕ
   nodes_of_all No = 0
   nodes_of_all (Field name ty fields) = nodes ty + nodes_of_all fields
+
+abbrev mutual
+  -- whether a variant or a sequence stands in a type, whose tag or length a field path leads to
+  pub has_paths : Ty → Bool
+  has_paths (Whole i) = false
+  has_paths (Named i labels) = false
+  has_paths Str = false
+  has_paths (Struct align fields) = any_has_paths fields
+  has_paths (Variant tag fields) = true
+  has_paths (Array length item) = has_paths item
+  has_paths (Sequence length item) = true
+
+  pub any_has_paths : Fields → Bool
+  any_has_paths No = false
+  any_has_paths (Field name ty fields) = has_paths ty || any_has_paths fields
 
 -- to how many bits a value is aligned; a variant tells nothing
 abbrev pub alignment : Ty → ℕ

@@ -14,7 +14,8 @@ use std::alloc::{AllocError, Global};
 use type_table::{Fault, FieldMeta, Reference, TypeMeta};
 
 impl TypeScope {
-    /// Looks at the field paths in a type that was declared before, from here.
+    /// Looks at the field paths in a type that was declared before, from here. A type without variants and sequences
+    /// has none, so it costs no walk.
     pub fn recheck(
         &mut self,
         alloc: Global,
@@ -39,6 +40,9 @@ impl TypeScope {
         ensures step { Does (rechecked block_context.now (tree self.old.table place) (state self.old).known) result (state self.new) }
         ensures table { OnOk result (self.new.table ≡ self.old.table) }
     {
+        if !self.table.type_size(place).has_paths {
+            return Ok(());
+        }
         match self.table.get(place) {
             TypeMeta::Integer { .. } | TypeMeta::Enum { .. } | TypeMeta::Str => Ok(()),
             TypeMeta::Struct { fields, .. } => {
