@@ -3,3 +3,4 @@ pub mod Tables
 pub mod Keys
 pub mod Replayed
 pub mod Counts
+pub mod StandardFacts

@@ -6,3 +6,4 @@ pub mod AlikeValues
 pub mod AlikePacketHeads
 pub mod AlikePieces
 pub mod AlikeEvents
+pub mod StandardFacts

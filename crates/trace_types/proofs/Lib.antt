@@ -7,3 +7,4 @@ pub mod PathWords
 pub mod Everywhere
 pub mod PlainBytes
 pub mod Appending
+pub mod StandardFacts
