@@ -84,7 +84,7 @@ named DiskIssue = refl
 named DiskDone = refl
 named Lost = refl
 
-same_word : (v w : KindWord) → spelling v ≡ spelling w → v ≡ w
+pub same_word : (v w : KindWord) → spelling v ≡ spelling w → v ≡ w
 same_word v w e = sym (named v) ∙ (ap (λ l. named_by (mark l)) e ∙ named w)
 
 pub first_is : (a b : List ℕ) (xs ys : List (List ℕ)) → a ∷ xs ≡ b ∷ ys → a ≡ b

@@ -12,3 +12,4 @@ pub mod Listing
 pub mod Spaced
 pub mod Splitting
 pub mod Written
+pub mod OneList

@@ -47,7 +47,7 @@ plain_marked plain.DiskIssue = refl
 plain_marked plain.DiskDone = refl
 plain_marked plain.Lost = refl
 
-apart : (w : NameWord) (v : KindWord) → spelling w ≢ kinds.spelling v
+pub apart : (w : NameWord) (v : KindWord) → spelling w ≢ kinds.spelling v
 apart w v e = true≢false (sym (names_marked w) ∙ (ap (λ l. is_name_mark (mark l)) e ∙ plain_marked v))
 
 named_by : ℕ → NameWord
@@ -59,8 +59,8 @@ named CallIn = refl
 named CallOut = refl
 named Other = refl
 
-same_word : (v w : NameWord) → spelling v ≡ spelling w → v ≡ w
-same_word v w e = sym (named v) ∙ (ap (λ l. named_by (mark l)) e ∙ named w)
+pub same_name_word : (v w : NameWord) → spelling v ≡ spelling w → v ≡ w
+same_name_word v w e = sym (named v) ∙ (ap (λ l. named_by (mark l)) e ∙ named w)
 
 -- such a word and a name that it may have are a line's
 pub name_line : (w : NameWord) (fields : List (List ℕ)) (name : List ℕ) → IsNamed w fields name → IsKindLine (spelling w ∷ fields) (record { kind = kind_with w 0; name = name })
@@ -76,7 +76,7 @@ no_named w fields none t line = elim (by_kind t.name t.kind line.is_kind) [ inl 
     of_name : IsNamedKind t.name t.kind → ⊥
     of_name n =
         let e : spelling w ∷ fields ≡ spelling n.word ∷ byte_text t.name ∷ [] = line.spelling ∙ named_words t.name t.kind n in
-        let same : w ≡ n.word = same_word w n.word (first_is _ _ _ _ e) in
+        let same : w ≡ n.word = same_name_word w n.word (first_is _ _ _ _ e) in
         none t.name (record { spelled = rest_is _ _ _ _ e; may = subst (λ v. may_name v t.name ≡ true) (sym same) n.may; are_bytes = n.are_bytes })
 
 -- without such a word, a line is that of a plain kind

@@ -78,7 +78,7 @@ stuck_there whole events least rest h few none = record {
 line_is : (m : ParsedLine) → parsed_text m ≡ join_with_byte 32 (parsed_words m) ++ 10 ∷ []
 line_is m = refl
 
-line_and : (m : ParsedLine) (after : List ℕ) → parsed_text m ++ after ≡ join_with_byte 32 (parsed_words m) ++ 10 ∷ after
+pub line_and : (m : ParsedLine) (after : List ℕ) → parsed_text m ++ after ≡ join_with_byte 32 (parsed_words m) ++ 10 ∷ after
 line_and m after = append_assoc (join_with_byte 32 (parsed_words m)) (10 ∷ []) after
 
 -- of a rest that is a line and more
@@ -114,7 +114,7 @@ rise_last : (k : ℕ) (xs : List ParsedLine) (n m : ParsedLine) → RiseFrom k (
 rise_last k [] n m h = h.1.0
 rise_last k (x ∷ xs) n m h = rise_last x.event.key xs n m h.1
 
-nonempty : (xs ys : List ℕ) → xs ++ 10 ∷ ys ≡ [] → ⊥
+pub nonempty : (xs ys : List ℕ) → xs ++ 10 ∷ ys ≡ [] → ⊥
 nonempty [] ys e = absurd (cc)
 nonempty (x ∷ xs) ys e = absurd (cc)
 

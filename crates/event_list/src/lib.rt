@@ -5,6 +5,7 @@ mod fields;
 mod io_fields;
 mod kind;
 mod kind_word;
+mod laws;
 mod line;
 mod list;
 mod name_word;
@@ -21,6 +22,7 @@ mod words;
 mod write;
 mod write_fields;
 
+pub use laws::one_list;
 pub use list::{ListError, read_list};
 pub use split::split_hosts;
 pub use trace::{MergedTrace, NameList};

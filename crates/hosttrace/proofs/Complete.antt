@@ -173,7 +173,7 @@ good_input : (source : Input) (files : Files) (refusal : Refusal) → InputRefus
 good_input (input.List file) files refusal h g = good_list (bytes_of files [] file) refusal h g.0 g.1
 good_input (input.Folder dir) files refusal h g = good_folder files dir refusal h g
 
-good : (c : PlainCommand) (files : Files) (refusal : Refusal) → Refuses c files refusal → IsGood c files → ⊥
+pub good : (c : PlainCommand) (files : Files) (refusal : Refusal) → Refuses c files refusal → IsGood c files → ⊥
 good (Check folders) files refusal h g = good_check files folders refusal h g
 good (Events folder) files refusal h g = good_folder files folder refusal h g
 good (State source at) files refusal h g = good_input source files refusal h g

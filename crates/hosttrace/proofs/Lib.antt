@@ -10,5 +10,7 @@ pub mod StreamsRead
 pub mod Merged
 pub mod FolderTraces
 pub mod OneOrder
+pub mod OneAsking
 pub mod OneFolder
+pub mod OneText
 pub mod Told

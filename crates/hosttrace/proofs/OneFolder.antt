@@ -1,5 +1,5 @@
 -- A folder has one trace, whatever places its types are kept at, and where it has one it isn't refused.
-use Rattle.std.proofs.Common.{◌≡◌, ◌∙◌, ◌≤◌, ◌<◌, ◌+◌, inl, inr, ℕ, List, [], ◌∷◌, length, map, Option, Some, None, option_map, flat_map, true, false, AllPairs, slice_index_or, nat_cmp, is_lt, Ordering, Less, Equal, Greater, refl, sym, ap, subst, subst₂, arith}
+use Rattle.std.proofs.Common.{◌≡◌, ◌∙◌, ◌≤◌, ◌+◌, ℕ, List, [], ◌∷◌, length, map, true, AllPairs, slice_index_or, nat_cmp, is_lt, Ordering, Less, Equal, Greater, refl, sym, ap, subst, arith}
 use Rattle.std.specs.Cmp.Lexicographic.{nat_list_cmp_total, slice_cmp}
 use Rattle.std.specs.Ordering.{ordering_reverse}
 use Rattle.ht_outside.specs.Files.{Files}
@@ -15,26 +15,24 @@ use Rattle.type_table.specs.declared.declared.EventParts.{EventParts}
 use Rattle.type_table.specs.declared.declared.StreamScopes.{StreamScopes}
 use Rattle.type_scope.specs.Traces.{trace}
 use Rattle.type_scope.specs.View.{event_at, stream_at}
-use Rattle.trace_metadata.proofs.OneTrace.{not_refused, one_trace}
+use Rattle.trace_metadata.proofs.OneTrace.{one_trace}
 use Rattle.decode_pool.proofs.AlikeHosts.{tell_same}
 use Rattle.decode_pool.specs.Hosts.{all_events, all_incomplete, all_packets, all_refused}
-use Rattle.decode_pool.specs.Limits.{MAX_PACKETS, event_count, host_packets, packet_count}
+use Rattle.decode_pool.specs.Limits.{MAX_PACKETS, event_count, packet_count}
 use Rattle.decode_pool.specs.OneTrace.{IsSameFile, TellSame}
 use Rattle.decode_pool.specs.declared.files.FileBytes.{FileBytes}
 use Rattle.decode_pool.specs.declared.hosts.HostFiles.{HostFiles}
 use Rattle.event_merge.specs.Single.{merged_alone}
 use Rattle.event_list.specs.Names.{lines_of, names_at}
 use Rattle.event_list.specs.declared.trace.MergedTrace.{MergedTrace}
-use Rattle.kernel_provider.specs.Replay.{state_at}
-use Rattle.report_views.specs.StateText.{IsBefore, IsListing, IsStateText, row_text}
+use Rattle.report_views.specs.StateText.{IsBefore, IsListing}
 use Rattle.report_views.specs.declared.rows.Row.{Row}
 use Rattle.trace_types.specs.Paths.{place_of}
 use Rattle.trace_types.specs.declared.path.Path.{Path as AttributePath}
 use Rattle.trace_types.specs.declared.value.Value.{Value}
-use Rattle.command_words.specs.declared.command.Input.TheVariants as input
 use Rattle.hosttrace.specs.Folders.{HasFewNames, HasManyNames, metadata_of}
-use Rattle.hosttrace.specs.Means.{IsEventsOutput, IsStateOutput}
-use Rattle.hosttrace.specs.Merges.{FolderTrace, FolderTraceRefuses, IsFolderMerge, IsFolderTrace, IsGoodFolder, IsWithinLimits, trace_of}
+use Rattle.hosttrace.specs.Means.{IsEventsOutput}
+use Rattle.hosttrace.specs.Merges.{FolderTrace, FolderTraceRefuses, IsFolderMerge, IsFolderTrace, IsGoodFolder, trace_of}
 use Rattle.hosttrace.specs.Streams.{AreFiles, AreStreamsRead, IsHostOf, metadata_size}
 use Rattle.hosttrace.specs.declared.status.Refusal.{Refusal}
 use Rattle.hosttrace.proofs.Complete.{good_folder}
@@ -136,14 +134,14 @@ module _ (files : Files) (dir : List ℕ) (a b : HostFiles) (ha : IsHostOf files
 pub one_folder : (files : Files) (dir : List ℕ) (t u : FolderTrace) → IsFolderTrace files dir t → IsFolderTrace files dir u → t ≡ u
 one_folder files dir t u h g = h.is ∙ (same_told files dir h.host g.host h.is_host g.is_host ∙ sym g.is)
 
-one_merge : (files : Files) (dir : List ℕ) (m n : MergedTrace) → IsFolderMerge files dir m → IsFolderMerge files dir n → (m.events.items ≡ n.events.items) × (m.names.items ≡ n.names.items)
+pub one_merge : (files : Files) (dir : List ℕ) (m n : MergedTrace) → IsFolderMerge files dir m → IsFolderMerge files dir n → (m.events.items ≡ n.events.items) × (m.names.items ≡ n.names.items)
 one_merge files dir m n (t, has, of) (u, hau, og) =
     let same = one_folder files dir t u has hau in
     (of.events ∙ (ap (λ x. x.events) same ∙ sym og.events), of.names ∙ (ap (λ x. x.names ∷ []) same ∙ sym og.names))
 
 -- ---- a folder that has a trace is good, and isn't refused
 
-few_and_many : (files : Files) (dir : List ℕ) → HasFewNames files dir → HasManyNames files dir → ⊥
+pub few_and_many : (files : Files) (dir : List ℕ) → HasFewNames files dir → HasManyNames files dir → ⊥
 few_and_many files dir (names, all, few) (others, more, many) = let shown = shown_alike files dir others names more all in absurd (omega (arith, few, many, shown))
 
 pub good_trace : (files : Files) (dir : List ℕ) (t : FolderTrace) → IsFolderTrace files dir t → IsGoodFolder files dir
@@ -186,15 +184,8 @@ rows_apart rows h i j d lt within e =
     irreflexive Equal a b = absurd (cc)
     irreflexive Greater a b = absurd (cc)
 
-one_listing : (values : AttributePath → Value) (rows others : List Row) → IsListing values rows → IsListing values others → rows ≡ others
+pub one_listing : (values : AttributePath → Value) (rows others : List Row) → IsListing values rows → IsListing values others → rows ≡ others
 one_listing values rows others h g =
     one_order IsBefore not_both rows others h.order g.order (rows_apart rows h.order) (rows_apart others g.order)
     (λ row is. in_from others row ((g.exact row).1 ((h.exact row).0 (from_in rows row is))))
     (λ row is. in_from rows row ((h.exact row).1 ((g.exact row).0 (from_in others row is))))
-
-pub one_state_text : (files : Files) (dir : List ℕ) (at : ℕ) (a b : List ℕ) → IsStateOutput files (input.Folder dir) at a → IsStateOutput files (input.Folder dir) at b → a ≡ b
-one_state_text files dir at a b h g =
-    let same = one_merge files dir h.trace g.trace h.is_input g.is_input in
-    let text : IsStateText (names_at g.trace.names.items) (state_at g.trace.events.items at) a = subst₂ (λ names es. IsStateText (names_at names) (state_at es at) a) same.1 same.0 h.is_text in
-    let rows = one_listing (state_at g.trace.events.items at) text.0 g.is_text.0 text.1 g.is_text.1 in
-    text.2 ∙ (ap (flat_map (row_text (names_at g.trace.names.items))) rows ∙ sym g.is_text.2)

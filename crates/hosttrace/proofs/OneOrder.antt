@@ -1,5 +1,5 @@
 -- Items that stand in one order, and the names of a folder's files.
-use Rattle.std.proofs.Common.{◌≡◌, ◌⊎◌, ◌↔◌, ◌∙◌, ◌<◌, ◌≤◌, ◌+◌, inl, inr, ℕ, zero, suc, Bool, true, false, cond, List, [], ◌∷◌, length, filter, count_by, nat_eq, Ordering, Less, Equal, Greater, nat_cmp, is_lt, is_eq, Contains, AllPairs, IsPermutation, IsSome, slice_index_or, refl, sym, ap, subst, arith, ⊎_elim}
+use Rattle.std.proofs.Common.{◌≡◌, ◌⊎◌, ◌∙◌, ◌≤◌, ◌+◌, inl, inr, ℕ, zero, suc, Bool, true, false, cond, List, [], ◌∷◌, filter, count_by, nat_eq, Ordering, Less, Equal, Greater, nat_cmp, is_lt, is_eq, Contains, AllPairs, IsPermutation, refl, sym, ap, subst, arith, ⊎_elim}
 use Rattle.std.specs.Cmp.Lexicographic.{bytes_decides, nat_list_cmp_total, nat_list_eq_equiv, pointwise, slice_cmp}
 use Rattle.std.specs.Ordering.{ordering_reverse}
 use Rattle.std.proofs.lemmas.List.Kept.{AllPairs-filter}

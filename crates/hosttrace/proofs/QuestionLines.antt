@@ -15,16 +15,16 @@ use Rattle.history_core.specs.declared.question.Question.{Question}
 use Rattle.hosttrace.specs.Questions.{question_line, question_text, IsQuestionLine, AreQuestions, IsFirstBadQuestion}
 use Rattle.report_views.specs.Asked.{IsQuestion}
 
-abbrev Without : ℕ → List ℕ → Type 0
+abbrev pub Without : ℕ → List ℕ → Type 0
 Without end = AllByRecursion (λ b. b ≢ end)
 
-time_without : (end : ℕ) → end < 48 → (q : Question) → IsQuestion q → Without end (decimal q.t)
+pub time_without : (end : ℕ) → end < 48 → (q : Question) → IsQuestion q → Without end (decimal q.t)
 time_without end low q is = all_weaker (λ b. 47 < b) (λ b. b ≢ end) (decimal q.t) (λ b k e. omega (arith, k, e, low)) (decimal_high q.t (below_wide q.t (2 ^ 62) is.below (omega arith)))
 
-line_without_feed : (q : Question) → IsQuestion q → Without 10 (question_line q)
+pub line_without_feed : (q : Question) → IsQuestion q → Without 10 (question_line q)
 line_without_feed q is = all_both (λ b. b ≢ 10) (decimal q.t) (32 ∷ path_text q.path) (time_without 10 (omega arith) q is) ((λ e. omega (arith, e)), all_weaker (λ b. 32 < b) (λ b. b ≢ 10) (path_text q.path) (λ b k e. omega (arith, k, e)) (path_word q.path is.is_path))
 
-text_and : (q : Question) (after : List ℕ) → question_text q ++ after ≡ question_line q ++ 10 ∷ after
+pub text_and : (q : Question) (after : List ℕ) → question_text q ++ after ≡ question_line q ++ 10 ∷ after
 text_and q after = append_assoc (question_line q) (10 ∷ []) after
 
 -- ---- the words of a line
@@ -62,7 +62,7 @@ asked_more bytes questions rest q after h e is = record {
   each = all_both IsQuestion questions (q ∷ []) h.each (is, tt);
 }
 
-nonempty : (xs ys : List ℕ) → xs ++ 10 ∷ ys ≡ [] → ⊥
+pub nonempty : (xs ys : List ℕ) → xs ++ 10 ∷ ys ≡ [] → ⊥
 nonempty [] ys e = absurd (cc)
 nonempty (x ∷ xs) ys e = absurd (cc)
 

@@ -1,5 +1,5 @@
 -- What a sink gained where it was told a status.
-use Rattle.std.proofs.Common.{◌≡◌, ◌⊎◌, ◌∙◌, inl, inr, ℕ, List, [], Option, Some, None, refl, sym, subst, append-nil}
+use Rattle.std.proofs.Common.{◌≡◌, ◌⊎◌, inl, inr, ℕ, List, [], Option, refl, sym, subst, append-nil}
 use Rattle.std.specs.Io.KnownBytes.{Appends}
 use Rattle.ht_outside.specs.Faults.{HasRisen}
 use Rattle.hosttrace.specs.Statuses.{IsLineOf, IsTold, IsToldOf, status_line}

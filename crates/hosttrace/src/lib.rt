@@ -16,6 +16,6 @@ mod writing;
 
 pub use command_words::{Command, Input, PlainCommand, WordsError, parse_words};
 pub use commands::{run, run_plain};
-pub use laws::one_folder;
+pub use laws::{one_asking, one_folder, one_text};
 pub use status::{Limit, ListFile, Refusal, Status};
 pub use status_line::write_status;

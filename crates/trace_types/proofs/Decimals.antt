@@ -192,3 +192,7 @@ decimal_high n h = high (decimal n) (decimal_is_IsNumeral_wide n (wide n h)).0.1
     high : (ds : List ℕ) → AllDigits 10 ds → AllByRecursion (λ b. 47 < b) ds
     high [] g = tt
     high (d ∷ ds) g = (omega (arith, (digit_from_value d g.0).0), high ds g.1)
+
+-- no two numbers below a limit of 64 bits are written alike
+pub same_decimal : (m n limit : ℕ) → m < limit → n < limit → limit < 2 ^ 64 → decimal m ≡ decimal n → m ≡ n
+same_decimal m n limit h g least e = same_number m n (below_wide m limit h least) (below_wide n limit g least) e

@@ -8,3 +8,4 @@ pub mod Everywhere
 pub mod PlainBytes
 pub mod Appending
 pub mod StandardFacts
+pub mod OneByteText

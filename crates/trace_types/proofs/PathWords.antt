@@ -1,13 +1,13 @@
 -- A path's words, and where its text is cut.
-use Rattle.std.proofs.Common.{◌≡◌, ◌≢◌, ℕ, ◌<◌, ◌≤◌, ◌^◌, List, [], ◌∷◌, ◌++◌, refl, sym, ap₂, ◌∙◌, subst, arith, length, get_or, take, drop, take_all, ◌-◌, codes, append_assoc}
+use Rattle.std.proofs.Common.{◌≡◌, ◌≢◌, ℕ, ◌<◌, ◌≤◌, ◌^◌, List, [], ◌∷◌, ◌++◌, if◌then◌else◌, refl, sym, ap, ap₂, ◌∙◌, subst, arith, length, get_or, take, drop, take_all, ◌-◌, codes, append_assoc}
 use Rattle.std.specs.List.{AllByRecursion}
-use Rattle.std.specs.Prelude.{Option, Some, None, IfNone}
+use Rattle.std.specs.Prelude.{Option, Some, None, IfNone, ◌==◌}
 use Rattle.std.specs.Fmt.{decimal}
 use Rattle.std.specs.Str.Parse.{AllDigits}
 use Rattle.std.proofs.lemmas.Fmt.{decimal_is_IsNumeral_wide}
 use Rattle.std.proofs.lemmas.Str.Parse.{digit_from_value}
 use Rattle.trace_types.proofs.Cutting.{same_front, has_end}
-use Rattle.trace_types.proofs.Decimals.{wide, below_wide, same_number, decimal_high}
+use Rattle.trace_types.proofs.Decimals.{wide, below_wide, same_decimal, same_number, decimal_high}
 use Rattle.trace_types.proofs.Everywhere.{all_weaker, all_both, visible}
 use Rattle.trace_types.specs.declared.path.Path.{Path as AttributePath}
 use Rattle.trace_types.specs.declared.path.Path.TheVariants.{Cpu, Thread}
@@ -182,3 +182,66 @@ joined_word a s b l ha hs hb hl =
 pub path_word : (p : AttributePath) → IsPath p → IsWord (path_text p)
 path_word (Cpu host cpu leaf) h = joined_word (decimal host) (codes "/Cpu/") (decimal cpu) (cpu_leaf_text leaf) (decimal_word host 64 h.0 (omega arith)) (visible (codes "/Cpu/") refl) (decimal_word cpu (2 ^ 32) h.1 (omega arith)) (cpu_leaf_word leaf)
 path_word (Thread host thread leaf) h = joined_word (decimal host) (codes "/Thread/") (thread_text thread) (thread_leaf_text leaf) (decimal_word host 64 h.0 (omega arith)) (visible (codes "/Thread/") refl) (key_word thread h.1) (thread_leaf_word leaf)
+
+-- ---- a text spells one path
+same_words : (text : List ℕ) (p q : AttributePath) → SpellsPath text p → SpellsPath text q → path_words p ≡ path_words q
+same_words text p q h g =
+    let w = words_of p h.is_path in
+    w.words ∙ (path_words_are w.host w.kind w.key w.leaf text q (h.spelling ∙ w.text) w.host_whole w.kind_whole w.key_whole g).spelling
+
+same_key : (k l : ThreadKey) → IsThreadKey k → IsThreadKey l → thread_text k ≡ thread_text l → k ≡ l
+same_key (Idle c) (Idle d) h g e = ap Idle (same_decimal c d (2 ^ 32) h g (omega arith) (behind 95 95 _ _ (behind 48 48 _ _ e)))
+same_key (Idle c) (Tid t) h g e = absurd (plain_key t (decimal c) g.1 e)
+same_key (Tid t) (Idle c) h g e = absurd (plain_key t (decimal c) h.1 (sym e))
+same_key (Tid t) (Tid u) h g e = ap Tid (same_decimal t u (2 ^ 31) h.1 g.1 (omega arith) e)
+
+-- the leaf of a processor or of a thread, from its text
+cpu_leaf_in : List ℕ → CpuLeaf
+cpu_leaf_in text = if get_or text 0 0 == 84 then cpu_leaf.Thread else if get_or text 0 0 == 73 then cpu_leaf.Irq else cpu_leaf.Softirq
+
+thread_leaf_in : List ℕ → ThreadLeaf
+thread_leaf_in text =
+    if get_or text 0 0 == 83 then thread_leaf.Status
+    else if get_or text 0 0 == 78 then thread_leaf.Name
+    else if get_or text 1 0 == 112 then thread_leaf.Cpu
+    else if get_or text 1 0 == 114 then thread_leaf.Prio
+    else if get_or text 0 0 == 80 then thread_leaf.Parent
+    else thread_leaf.Call
+
+cpu_leaf_again : (l : CpuLeaf) → cpu_leaf_in (cpu_leaf_text l) ≡ l
+unfolding cpu_leaf_in
+cpu_leaf_again cpu_leaf.Thread = refl
+cpu_leaf_again cpu_leaf.Irq = refl
+cpu_leaf_again cpu_leaf.Softirq = refl
+
+thread_leaf_again : (l : ThreadLeaf) → thread_leaf_in (thread_leaf_text l) ≡ l
+unfolding thread_leaf_in
+thread_leaf_again thread_leaf.Status = refl
+thread_leaf_again thread_leaf.Name = refl
+thread_leaf_again thread_leaf.Cpu = refl
+thread_leaf_again thread_leaf.Prio = refl
+thread_leaf_again thread_leaf.Parent = refl
+thread_leaf_again thread_leaf.Call = refl
+
+same_cpu_leaf : (l m : CpuLeaf) → cpu_leaf_text l ≡ cpu_leaf_text m → l ≡ m
+same_cpu_leaf l m e = sym (cpu_leaf_again l) ∙ (ap cpu_leaf_in e ∙ cpu_leaf_again m)
+
+same_thread_leaf : (l m : ThreadLeaf) → thread_leaf_text l ≡ thread_leaf_text m → l ≡ m
+same_thread_leaf l m e = sym (thread_leaf_again l) ∙ (ap thread_leaf_in e ∙ thread_leaf_again m)
+
+by_words : (p q : AttributePath) → IsPath p → IsPath q → path_words p ≡ path_words q → p ≡ q
+by_words (Cpu h c l) (Cpu i d m) is js e =
+    let host : h ≡ i = same_decimal h i 64 is.0 js.0 (omega arith) (cc) in
+    let cpu : c ≡ d = same_decimal c d (2 ^ 32) is.1 js.1 (omega arith) (cc) in
+    let leaf : l ≡ m = same_cpu_leaf l m (cc) in
+    λ k. Cpu (host k) (cpu k) (leaf k)
+by_words (Cpu h c l) (Thread i t m) is js e = absurd (cc)
+by_words (Thread h t l) (Cpu i d m) is js e = absurd (cc)
+by_words (Thread h t l) (Thread i u m) is js e =
+    let host : h ≡ i = same_decimal h i 64 is.0 js.0 (omega arith) (cc) in
+    let thread : t ≡ u = same_key t u is.1 js.1 (cc) in
+    let leaf : l ≡ m = same_thread_leaf l m (cc) in
+    λ k. Thread (host k) (thread k) (leaf k)
+
+pub one_path : (text : List ℕ) (p q : AttributePath) → SpellsPath text p → SpellsPath text q → p ≡ q
+one_path text p q h g = by_words p q h.is_path g.is_path (same_words text p q h g)

@@ -1,0 +1,89 @@
+"""What the scripts of bench/ and .ci/ share: where things lie, what builds the programs, and how runs are measured."""
+import os
+import shutil
+import subprocess
+import sys
+import time
+from pathlib import Path
+
+TOP = Path(__file__).resolve().parent.parent
+EXAMPLES = TOP / "examples/three-hosts"
+
+
+def ready(script: Path, words: list, program: Path) -> Path:
+    """A program, once its script has built it. A build that fails ends this script, with status 70."""
+    status = subprocess.run([script, *words], stdout=subprocess.DEVNULL).returncode
+    if status != 0:
+        print(f"{sys.argv[0]}: {script.name} couldn't be built", file=sys.stderr)
+        sys.exit(70)
+    return program
+
+
+def hosttrace() -> Path:
+    """The program; HOSTTRACE names another one, which isn't built."""
+    if "HOSTTRACE" in os.environ:
+        return Path(os.environ["HOSTTRACE"]).resolve()
+    words = ["state", "--at", "249", "--list", TOP / "crates/hosttrace_cli/data/a.list"]
+    return ready(TOP / "hosttrace", words, TOP / "crates/hosttrace_cli/out/hosttrace_cli")
+
+
+def hosttrace_bench() -> Path:
+    """The program that times single calls; HOSTTRACE_BENCH names another one, which isn't built."""
+    if "HOSTTRACE_BENCH" in os.environ:
+        return Path(os.environ["HOSTTRACE_BENCH"]).resolve()
+    words = ["count", TOP / "crates/hosttrace_bench/data/small.tsdl"]
+    return ready(TOP / "bench/hosttrace_bench", words, TOP / "crates/hosttrace_bench/out/hosttrace_bench")
+
+
+def compiled(source: str, folder: Path) -> Path:
+    """A plain Rust program of bench/, compiled into a folder."""
+    folder.mkdir(parents=True, exist_ok=True)
+    program = folder / source.removesuffix(".rs")
+    subprocess.run(["rustc", "--edition", "2021", "-O", "-o", program, TOP / "bench" / source], check=True)
+    return program
+
+
+def has_babeltrace() -> bool:
+    return shutil.which("babeltrace2") is not None
+
+
+def folders_in(folder: Path) -> list:
+    """The trace folders in a folder, by name."""
+    return sorted(host for host in folder.iterdir() if host.is_dir())
+
+
+def argument(default: Path) -> Path:
+    """The folder that the script was given."""
+    return Path(sys.argv[1]) if len(sys.argv) > 1 else default
+
+
+def output(command: list) -> str:
+    return subprocess.run(command, check=True, capture_output=True, text=True).stdout
+
+
+def seconds(*commands: list) -> float:
+    """The seconds that whole processes take, one after the other."""
+    begun = time.monotonic()
+    for command in commands:
+        subprocess.run(command, check=True, stdout=subprocess.DEVNULL, stderr=subprocess.DEVNULL)
+    return time.monotonic() - begun
+
+
+def measured(command: list, out: Path = Path(os.devnull)) -> tuple:
+    """Seconds and bytes at the peak of one run."""
+    with open(out, "wb") as file:
+        begun = time.monotonic()
+        process = subprocess.Popen(command, stdout=file)
+        _, status, usage = os.wait4(process.pid, 0)
+        took = time.monotonic() - begun
+    process.returncode = os.waitstatus_to_exitcode(status)
+    if process.returncode != 0:
+        sys.exit(f"{command[0]} ended with status {process.returncode}")
+    return took, usage.ru_maxrss * 1024
+
+
+def holds(what: str, value: float, bound: float) -> bool:
+    """Prints a figure beside its bound, and tells whether that holds."""
+    kept = value <= bound
+    print(f"{what}: {value:.2f} (bound {bound:g}){'' if kept else ' BROKEN'}")
+    return kept

@@ -1,0 +1,85 @@
+-- A command has one text at most over given files. Where it has one they are good, and nothing refuses them.
+use Rattle.std.proofs.Common.{◌≡◌, ◌∙◌, ℕ, ◌+◌, List, [], ◌∷◌, length, refl, sym, ap, ap₂, subst₂}
+use Rattle.std.specs.Prelude.{flat_map}
+use Rattle.std.specs.List.{AllByRecursion}
+use Rattle.ht_outside.specs.Files.{Files, bytes_of}
+use Rattle.type_scope.specs.Traces.{Trace}
+use Rattle.trace_metadata.proofs.OneTrace.{one_trace}
+use Rattle.event_list.proofs.OneList as list
+use Rattle.event_list.specs.Names.{names_at}
+use Rattle.event_list.specs.declared.trace.MergedTrace.{MergedTrace}
+use Rattle.kernel_provider.specs.Replay.{state_at}
+use Rattle.report_views.specs.AnswersText.{asked_text}
+use Rattle.report_views.specs.StateText.{IsStateText, row_text}
+use Rattle.command_words.specs.declared.command.Input.{Input}
+use Rattle.command_words.specs.declared.command.Input.TheVariants as input
+use Rattle.command_words.specs.declared.command.PlainCommand.{PlainCommand}
+use Rattle.command_words.specs.declared.command.PlainCommand.TheVariants.{Ask, Check, Events, State}
+use Rattle.hosttrace.specs.Folders.{AreRead, HasManyNames, metadata_of}
+use Rattle.hosttrace.specs.Hosts.{AreTraces, host_lines}
+use Rattle.hosttrace.specs.Means.{IsAskOutput, IsCheckOutput, IsGood, IsGoodInput, IsInput, IsOutput, IsStateOutput, Refuses}
+use Rattle.hosttrace.specs.declared.status.Refusal.{Refusal}
+use Rattle.hosttrace.proofs.Complete.{good}
+use Rattle.hosttrace.proofs.OneAsking.{one_asking}
+use Rattle.hosttrace.proofs.OneFolder.{few_and_many, good_trace, one_events_text, one_listing, one_merge}
+
+-- ---- one trace of an input
+
+one_input : (files : Files) (source : Input) (t u : MergedTrace) → IsInput source files t → IsInput source files u → (t.events.items ≡ u.events.items) × (t.names.items ≡ u.names.items)
+one_input files (input.List file) t u h g = list.one_trace (bytes_of files [] file) h.parsed_lines g.parsed_lines t u h.is_list.is_list h.is_trace g.is_list.is_list g.is_trace
+one_input files (input.Folder dir) t u h g = one_merge files dir t u h g
+
+pub one_state_text : (files : Files) (source : Input) (at : ℕ) (a b : List ℕ) → IsStateOutput files source at a → IsStateOutput files source at b → a ≡ b
+one_state_text files source at a b h g =
+    let same = one_input files source h.trace g.trace h.is_input g.is_input in
+    let text : IsStateText (names_at g.trace.names.items) (state_at g.trace.events.items at) a = subst₂ (λ names es. IsStateText (names_at names) (state_at es at) a) same.1 same.0 h.is_text in
+    let rows = one_listing (state_at g.trace.events.items at) text.0 g.is_text.0 text.1 g.is_text.1 in
+    text.2 ∙ (ap (flat_map (row_text (names_at g.trace.names.items))) rows ∙ sym g.is_text.2)
+
+pub one_answers_text : (files : Files) (source : Input) (questions a b : List ℕ) → IsAskOutput files source questions a → IsAskOutput files source questions b → a ≡ b
+one_answers_text files source questions a b h g =
+    let same = one_input files source h.trace g.trace h.is_input g.is_input in
+    let asked = one_asking (bytes_of files [] questions) h.asked g.asked h.are_asked.are_questions g.are_asked.are_questions in
+    h.is_text
+    ∙ (ap (λ names. flat_map (asked_text (names_at names) (state_at h.trace.events.items)) h.asked) same.1
+    ∙ (ap (λ es. flat_map (asked_text (names_at g.trace.names.items) (state_at es)) h.asked) same.0
+    ∙ (ap (λ qs. flat_map (asked_text (names_at g.trace.names.items) (state_at g.trace.events.items)) qs) asked
+    ∙ sym g.is_text)))
+
+-- ---- one text of a check
+
+same_traces : (files : List (List ℕ)) (ts us : List Trace) → AreTraces files ts → AreTraces files us → ts ≡ us
+same_traces [] [] [] h g = refl
+same_traces [] [] (u ∷ us) h g = absurd g
+same_traces [] (t ∷ ts) us h g = absurd h
+same_traces (f ∷ fs) [] us h g = absurd h
+same_traces (f ∷ fs) (t ∷ ts) [] h g = absurd g
+same_traces (f ∷ fs) (t ∷ ts) (u ∷ us) h g = ap₂ (λ x xs. x ∷ xs) (one_trace f t u h.0 g.0) (same_traces fs ts us h.1 g.1)
+
+one_check_text : (files : Files) (folders : List (List ℕ)) (a b : List ℕ) → IsCheckOutput files folders a → IsCheckOutput files folders b → a ≡ b
+one_check_text files folders a b h g = h.is_text ∙ (ap (host_lines 0) (same_traces _ h.traces g.traces h.are_traces g.are_traces) ∙ sym g.is_text)
+
+pub one_text : (command : PlainCommand) (files : Files) (a b : List ℕ) → IsOutput command files a → IsOutput command files b → a ≡ b
+one_text (Check folders) files a b h g = one_check_text files folders a b h g
+one_text (Events folder) files a b h g = one_events_text files folder a b h g
+one_text (State source at) files a b h g = one_state_text files source at a b h g
+one_text (Ask source questions) files a b h g = one_answers_text files source questions a b h g
+
+-- ---- files that have a text are good
+
+few_names : (files : Files) (before : ℕ) (folders : List (List ℕ)) → AreRead files before folders → AllByRecursion (λ dir. ¬ (HasManyNames files dir)) folders
+few_names files before [] are = tt
+few_names files before (dir ∷ dirs) are = ((λ many. few_and_many files dir are.0.few many), few_names files (before + length (metadata_of files dir)) dirs are.1)
+
+good_input : (files : Files) (source : Input) (t : MergedTrace) → IsInput source files t → IsGoodInput source files
+good_input files (input.List file) t h = (h.parsed_lines, h.is_list)
+good_input files (input.Folder dir) t h = good_trace files dir h.0 h.1
+
+pub good_files : (command : PlainCommand) (files : Files) (text : List ℕ) → IsOutput command files text → IsGood command files
+good_files (Check folders) files text h = record { few = h.few; few_names = few_names files 0 folders h.are_read; are_read = h.are_read; traces = h.traces; are_traces = h.are_traces }
+good_files (Events folder) files text h = good_trace files folder h.trace h.is_trace
+good_files (State source at) files text h = good_input files source h.trace h.is_input
+good_files (Ask source questions) files text h = (good_input files source h.trace h.is_input, (h.asked, h.are_asked))
+
+pub never_refused : (command : PlainCommand) (files : Files) (text : List ℕ) (refusal : Refusal) → IsOutput command files text → Refuses command files refusal → ⊥
+never_refused command files text refusal h refused = good command files refusal refused (good_files command files text h)
