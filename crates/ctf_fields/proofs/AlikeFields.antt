@@ -24,7 +24,7 @@ use Rattle.ctf_fields.proofs.SameTypes.{SameReference, SameWords, and_word, no_w
 pub data AlikeOpen (t u : Table) : Field-F Field Member → Field-F Field Member → Type 0 where
   open_ints : (a b : ℕ) (z : ℤ) → SameType t u a b → AlikeOpen t u (Field-F.Int a z) (Field-F.Int b z)
   open_texts : (text : List ℕ) → AlikeOpen t u (Field-F.Text text) (Field-F.Text text)
-  open_structs : (ms ns : List Member) → AlikeMembers t u ms ns → AlikeOpen t u (Field-F.Struct ms) (Field-F.Struct ns)
+  both_structs : (ms ns : List Member) → AlikeMembers t u ms ns → AlikeOpen t u (Field-F.Struct ms) (Field-F.Struct ns)
   open_choices : (a b : ℕ) (x y : Field) → SameName t u a b → Alike t u x y → AlikeOpen t u (Field-F.Choice a x) (Field-F.Choice b y)
   open_lists : (a b : ℕ) (xs ys : List Field) → SameType t u a b → AlikeItems t u xs ys → AlikeOpen t u (Field-F.List a xs) (Field-F.List b ys)
 
@@ -36,7 +36,7 @@ shut t u f g x y left right h = subst₂ (AlikeOpen t u) (sym left) (sym right) 
 pub opened : (t u : Table) {f g : Field} → Alike t u f g → AlikeOpen t u (out-Field f) (out-Field g)
 opened t u (ints f g a b z ty left right) = shut t u f g _ _ left right (open_ints a b z ty)
 opened t u (texts f g text left right) = shut t u f g _ _ left right (open_texts text)
-opened t u (structs f g ms ns members left right) = shut t u f g _ _ left right (open_structs ms ns members)
+opened t u (structs f g ms ns members left right) = shut t u f g _ _ left right (both_structs ms ns members)
 opened t u (choices f g a b x y name inner left right) = shut t u f g _ _ left right (open_choices a b x y name inner)
 opened t u (lists f g a b xs ys ty items left right) = shut t u f g _ _ left right (open_lists a b xs ys ty items)
 
@@ -70,7 +70,7 @@ nearest_alike t u a b is (and_member m n ms ns name alike rest) =
 
 -- a field of a name is alike in levels that are
 member_open : (t u : Table) (a b : ℕ) {x y : Field-F Field Member} → SameName t u a b → AlikeOpen t u x y → AlikeIf t u (member_of t.names a x) (member_of u.names b y)
-member_open t u a b same (open_structs ms ns members) = nearest_alike t u a b same members
+member_open t u a b same (both_structs ms ns members) = nearest_alike t u a b same members
 member_open t u a b same _ = tt
 
 -- a field of a name is alike in fields that are
@@ -204,7 +204,7 @@ first_members t u text i j inner (and_member m n ms ns name alike rest) =
 
 -- the first of a name in one level
 first_open : (t u : Table) (text : Text) (i j : Within) {x y : Field-F Field Member} → WithinAlike t u i j → AlikeOpen t u x y → AlikeIf t u (first_by i t.names text x) (first_by j u.names text y)
-first_open t u text i j inner (open_structs ms ns members) = first_members t u text i j inner members
+first_open t u text i j inner (both_structs ms ns members) = first_members t u text i j inner members
 first_open t u text i j inner (open_choices a b x y name alike) = first_at_alike t u text i j a b x y inner name alike
 first_open t u text i j inner _ = tt
 
@@ -233,7 +233,7 @@ last_members t u text i j inner (and_member m n ms ns name alike rest) =
 
 -- the last of a name in one level
 last_open : (t u : Table) (text : Text) (i j : Within) {x y : Field-F Field Member} → WithinAlike t u i j → AlikeOpen t u x y → AlikeIf t u (last_by i t.names text x) (last_by j u.names text y)
-last_open t u text i j inner (open_structs ms ns members) = last_members t u text i j inner members
+last_open t u text i j inner (both_structs ms ns members) = last_members t u text i j inner members
 last_open t u text i j inner (open_choices a b x y name alike) = last_at_alike t u text i j a b x y inner name alike
 last_open t u text i j inner _ = tt
 

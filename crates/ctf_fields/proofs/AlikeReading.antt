@@ -258,12 +258,12 @@ by_both t u bytes end s r i j x y a b open_structs others at one two scopes inne
 by_both t u bytes end s r i j x y a b open_structs others at one two scopes inner name same strings here = leaf_both t u field.Text field.Text (text_read bytes end at) (string_alike t u)
 by_both t u bytes end s r i j x y a b open_structs others at one two scopes inner name same (structures align align' fs gs e inside) here =
     subst (λ n. ReadBoth (Alike t u) (read_struct i x align fs open_structs at) (read_struct j y n gs others at)) e (struct_both t u i j x y align open_structs others at inner name inside here)
-by_both t u bytes end s r i j x y a b open_structs others at one two scopes inner name same (variants field_path path fs gs field_path inside) here =
-    choice_both t u i j _ _ open_structs others at inner (chosen_both t u _ _ one two (field_path_both t u bytes end s r open_structs others field_path path scopes here field_path) inside) here
+by_both t u bytes end s r i j x y a b open_structs others at one two scopes inner name same (variants field_path path fs gs paths inside) here =
+    choice_both t u i j _ _ open_structs others at inner (chosen_both t u _ _ one two (field_path_both t u bytes end s r open_structs others field_path path scopes here paths) inside) here
 by_both t u bytes end s r i j x y a b open_structs others at one two scopes inner name same (arrays n m c d e item) here =
     subst (λ k. ReadBoth (Alike t u) (read_list i t n c open_structs at) (read_list j u k d others at)) e (list_both t u i j n c d open_structs others at inner item here)
-by_both t u bytes end s r i j x y a b open_structs others at one two scopes inner name same (sequences field_path path c d field_path item) here =
-    sequence_both t u i j _ _ c d open_structs others at inner (length_both t u _ _ (field_path_both t u bytes end s r open_structs others field_path path scopes here field_path)) item here
+by_both t u bytes end s r i j x y a b open_structs others at one two scopes inner name same (sequences field_path path c d paths item) here =
+    sequence_both t u i j _ _ c d open_structs others at inner (length_both t u _ _ (field_path_both t u bytes end s r open_structs others field_path path scopes here paths)) item here
 
 -- at every depth, types of one tree are read alike
 pub deep_both : (t u : Table) (bytes : List ℕ) (end : ℕ) (s r : Scopes) (depth : ℕ) → IsSoundTable t → IsSoundTable u → AlikeScopes t u s r → InnerAlike t u (read depth (source t bytes end s)) (read depth (source u bytes end r))

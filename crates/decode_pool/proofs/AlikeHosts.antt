@@ -1,5 +1,5 @@
 -- The events of a host are the same by two representations of one trace.
-use Rattle.std.proofs.Common.{◌≡◌, ◌∙◌, ℕ, ◌+◌, List, [], ◌∷◌, ◌++◌, length, map, if◌then◌else◌, refl, sym, ap, ap₂}
+use Rattle.std.proofs.Common.{◌≡◌, ◌∙◌, ℕ, ◌+◌, List, [], ◌∷◌, ◌++◌, length, map, if◌then◌else◌, refl, ap, ap₂}
 use Rattle.trace_types.specs.declared.event.Event.{Event}
 use Rattle.trace_types.specs.declared.event.KernelEvent.{KernelEvent}
 use Rattle.type_table.specs.SameTrace.{AreBoth, IsSameTrace}
@@ -7,7 +7,6 @@ use Rattle.type_table.specs.TraceMetas.{IsSoundMeta, MetaParts}
 use Rattle.ctf_fields.specs.declared.raw.RawEvent.{RawEvent}
 use Rattle.kernel_layout.specs.Kinds.{kind_of}
 use Rattle.kernel_layout.proofs.AlikeKinds.{kind_alike}
-use Rattle.packet_decoder.specs.Events.{decoded}
 use Rattle.packet_decoder.specs.Pieces.{pieces}
 use Rattle.packet_decoder.specs.declared.piece.PacketResult.{PacketResult}
 use Rattle.packet_decoder.specs.declared.piece.PacketResult.TheVariants as result
@@ -18,7 +17,6 @@ use Rattle.packet_decoder.proofs.AlikeEvents.{AlikePackets, AlikeRaw, AlikeRaws,
 use Rattle.packet_decoder.proofs.AlikePieces.{same_pieces}
 use Rattle.decode_pool.specs.declared.files.FileBytes.{FileBytes}
 use Rattle.decode_pool.specs.declared.decoded_packet.AcceptedPacket.{AcceptedPacket}
-use Rattle.decode_pool.specs.declared.decoded_packet.DecodedPacket.{DecodedPacket}
 use Rattle.decode_pool.specs.declared.decoded_packet.DecodedPacket.TheVariants as part
 use Rattle.decode_pool.specs.Hosts.{all_events, all_incomplete, all_packets, all_refused, incomplete_in as kept_incomplete, refused_in}
 use Rattle.decode_pool.specs.Limits.{host_packets, packets_in}

@@ -4,3 +4,4 @@ pub mod Taken
 pub mod Reading
 pub mod Cutting
 pub mod AlikeHosts
+pub mod Batching

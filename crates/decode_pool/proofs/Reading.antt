@@ -1,16 +1,19 @@
 -- A packet's events, each made a kernel event as it is read.
-use Rattle.std.proofs.Common.{◌≡◌, ℕ, ◌+◌, if◌then◌else◌, List, [], ◌∷◌, ◌++◌, append_assoc, append-nil, map, Result, Ok, Err, refl, sym, ap, ap₂, arith}
+use Rattle.std.proofs.Common.{◌≡◌, ℕ, ◌+◌, ◌≤◌, Bool, true, false, if◌then◌else◌, nat_le, List, [], ◌∷◌, ◌++◌, append_assoc, append-nil, length, map, None, Some, Result, Ok, Err, refl, sym, ap, ap₂, arith}
+use Rattle.std.proofs.lemmas.Bool.{leb-true}
+use Rattle.std.proofs.lemmas.List.{length-append}
 use Rattle.type_table.specs.TraceMetas.{MetaParts}
 use Rattle.ctf_fields.specs.declared.raw.RawEvent.{RawEvent}
 use Rattle.trace_types.specs.declared.event.Event.{Event}
 use Rattle.trace_types.specs.declared.cause.Cause.{Cause}
 use Rattle.packet_decoder.specs.Events.{as_packet}
-use Rattle.packet_decoder.specs.Unread.{and_before}
+use Rattle.packet_decoder.specs.Unread.{and_before, refusal}
 use Rattle.packet_decoder.specs.declared.piece.PacketSpan.{PacketSpan}
 use Rattle.kernel_layout.specs.Kinds.{kind_of}
 use Rattle.decode_pool.specs.declared.decoded_packet.AcceptedPacket.{AcceptedPacket}
 use Rattle.decode_pool.specs.declared.decoded_packet.DecodedPacket.{DecodedPacket}
 use Rattle.decode_pool.specs.declared.decoded_packet.DecodedPacket.TheVariants as part
+use Rattle.decode_pool.specs.Excess.{part_within}
 use Rattle.decode_pool.specs.Parts.{event_of, incomplete_in, part_by}
 
 -- a packet of which these events are made, and so many are incomplete
@@ -38,3 +41,16 @@ one_more host meta span events incomplete n raw (Err cause) e = refl
 
 pub at_last : (host : ℕ) (meta : MetaParts) (span : PacketSpan) (events : List Event) (incomplete : ℕ) → with_left host meta span events incomplete (Ok []) ≡ part.Accepted (kept_so_far span events incomplete)
 at_last host meta span events incomplete = let none : incomplete + 0 ≡ incomplete = omega arith in ap₂ (λ es n. part.Accepted (kept_so_far span es n)) (append-nil events) none
+
+-- where so many events were read and one more follows, they are too many
+pub too_many : (host : ℕ) (meta : MetaParts) (span : PacketSpan) (events : List Event) (incomplete most : ℕ) (raw : RawEvent) (left : Result (List RawEvent) Cause) → most ≤ length events → refusal left ≡ None
+    → part_within most (with_left host meta span events incomplete (and_before raw left)) ≡ None
+too_many host meta span events incomplete most raw (Ok raws) many e = by (nat_le (length all) most) refl
+  where
+    all : List Event
+    all = events ++ event_of host meta raw ∷ map (event_of host meta) raws
+
+    by : (b : Bool) → nat_le (length all) most ≡ b → (if b then Some (part.Accepted (kept_so_far span all (incomplete + incomplete_in meta (raw ∷ raws)))) else None) ≡ None
+    by true h = let within = leb-true (length all) most h in absurd (omega (arith, many, within, length-append events (event_of host meta raw ∷ map (event_of host meta) raws)))
+    by false h = refl
+too_many host meta span events incomplete most raw (Err cause) many e = absurd (cc)

@@ -1,10 +1,9 @@
 -- The limits of a run on packets and on events, and what its hosts' files hold within them (this project's own).
+pub use Rattle.packet_decoder.specs.Packets.{packets_in}
 use Rattle.std.specs.Prelude.{ℕ, ◌+◌, List, [], ◌∷◌, length}
 use Rattle.std.specs.List.{AllByRecursion}
 use Rattle.type_table.specs.TraceMetas.{MetaParts}
 use Rattle.trace_types.specs.declared.host.HostEvents.{HostEvents}
-use Rattle.packet_decoder.specs.declared.piece.Piece.{Piece}
-use Rattle.packet_decoder.specs.declared.piece.Piece.TheVariants as piece
 use Rattle.packet_decoder.specs.Pieces.{pieces}
 use Rattle.decode_pool.specs.declared.files.FileBytes.{FileBytes}
 use Rattle.decode_pool.specs.declared.hosts.HostFiles.{HostFiles}
@@ -15,12 +14,6 @@ MAX_PACKETS = 1048576
 
 abbrev pub HasSmallFiles : HostFiles → Type 0
 HasSmallFiles host = AllByRecursion IsSmall host.files.items
-
--- packets, accepted or refused one by one; the rest of a file that can't be cut is none
-abbrev pub packets_in : List Piece → ℕ
-packets_in [] = 0
-packets_in (piece.Packet span ∷ ps) = 1 + packets_in ps
-packets_in (piece.Bad offset cause ∷ ps) = packets_in ps
 
 abbrev pub host_packets : MetaParts → List FileBytes → ℕ
 host_packets meta [] = 0

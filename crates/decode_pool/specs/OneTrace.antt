@@ -1,6 +1,5 @@
 -- What the stream files of a host tell by two representations of one trace (this project's own).
-use Rattle.std.specs.Prelude.{◌≡◌, ℕ, List, length}
-use Rattle.type_table.specs.SameTrace.{AreBoth}
+use Rattle.std.specs.Prelude.{◌≡◌, ℕ, List}
 use Rattle.type_table.specs.TraceMetas.{MetaParts}
 use Rattle.decode_pool.specs.declared.files.FileBytes.{FileBytes}
 use Rattle.decode_pool.specs.Hosts.{all_events, all_incomplete, all_packets, all_refused}

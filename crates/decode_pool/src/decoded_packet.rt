@@ -1,9 +1,10 @@
 //! The pieces of a file with what they hold.
-ghost use Rattle.std.specs.Prelude.{◌≡◌, ◌≤◌, ◌^◌, Err, IfOk, length};
+ghost use Rattle.std.specs.Prelude.{◌≡◌, ◌≤◌, ◌^◌, Err, None, IfNone, IfOk, IfSome, length};
 ghost use Rattle.kernel_layout.specs.Tracepoints.{layout_of};
 ghost use Rattle.packet_decoder.specs.Pieces.{LiesIn, PieceLiesIn};
 ghost use Rattle.packet_decoder.specs.declared.failure.Failure.TheVariants as failure;
 ghost use Rattle.trace_types.specs.declared.cause.Cause.{Cause};
+ghost use Rattle.decode_pool.specs.Excess.{part_within};
 ghost use Rattle.decode_pool.specs.Parts.{part_of, part_of_packet};
 ghost use Rattle.decode_pool.specs.declared.decoded_packet.DecodedPacket.TheVariants as part;
 
@@ -32,72 +33,85 @@ pub enum DecodedPacket {
     Refused { offset: u64, cause: Cause },
 }
 
-/// What a piece of a file holds. `layout` is that of the trace.
+/// What a piece of a file holds, and none where it is a packet with more than `most` events. `layout` is that of the
+/// trace.
 #[tactic(auto, unfolding(crate::specs::Parts::part_of))]
-pub fn part_of(
+pub fn part_within(
     alloc: Global,
+    most: u64,
     host: u32,
     meta: &TraceMeta,
     layout: &Layout,
     file: &[u8],
     piece: &Piece,
-) -> Result<DecodedPacket, OutOfMemory>
+) -> Result<Option<DecodedPacket>, OutOfMemory>
     requires layout { layout.now ≡ layout_of meta.now }
     requires file { length file.now ≤ 2 ^ 60 }
     requires piece { PieceLiesIn file.now piece.now }
-    ensures { IfOk result (λ part. part ≡ part_of host meta.now file.now piece.now) }
+    ensures { IfOk result (λ part. part ≡ part_within most (part_of host meta.now file.now piece.now)) }
 {
     match piece {
-        Piece::Packet(span) => part_of_packet(alloc, host, meta, layout, file, span),
-        Piece::Bad { offset, cause } => Ok(DecodedPacket::Refused {
+        Piece::Packet(span) => packet_within(alloc, most, host, meta, layout, file, span),
+        Piece::Bad { offset, cause } => Ok(Some(DecodedPacket::Refused {
             offset: *offset,
             cause: *cause,
-        }),
+        })),
     }
 }
 
-fn part_of_packet(
+fn packet_within(
     alloc: Global,
+    most: u64,
     host: u32,
     meta: &TraceMeta,
     layout: &Layout,
     file: &[u8],
     span: &PacketSpan,
-) -> Result<DecodedPacket, OutOfMemory>
+) -> Result<Option<DecodedPacket>, OutOfMemory>
     requires layout { layout.now ≡ layout_of meta.now }
     requires file { length file.now ≤ 2 ^ 60 }
     requires span { LiesIn file.now span.now }
-    ensures { IfOk result (λ part. part ≡ part_of_packet host meta.now file.now span.now) }
+    ensures { IfOk result (λ part. part ≡ part_within most (part_of_packet host meta.now file.now span.now)) }
 {
-    match accept_packet(alloc, host, meta, layout, file, span) {
-        Ok(kept) => Ok(DecodedPacket::Accepted(kept)),
-        Err(Failure::Refused(cause)) => Ok(DecodedPacket::Refused {
+    match accept_packet(alloc, most, host, meta, layout, file, span) {
+        Ok(Some(kept)) => Ok(Some(DecodedPacket::Accepted(kept))),
+        Ok(None) => Ok(None),
+        Err(Failure::Refused(cause)) => Ok(Some(DecodedPacket::Refused {
             offset: span.offset,
             cause,
-        }),
+        })),
         Err(Failure::OutOfMemory) => Err(OutOfMemory),
     }
 }
 
 // A packet with its events, of which each is made a kernel event as it is read, so that its fields' memory is used again.
+// Where there are more than `most`, the packet is read to its end all the same, since it may be refused there.
 fn accept_packet(
     alloc: Global,
+    most: u64,
     host: u32,
     meta: &TraceMeta,
     layout: &Layout,
     file: &[u8],
     span: &PacketSpan,
-) -> Result<AcceptedPacket, Failure>
+) -> Result<Option<AcceptedPacket>, Failure>
     requires layout { layout.now ≡ layout_of meta.now }
     requires file { length file.now ≤ 2 ^ 60 }
     requires span { LiesIn file.now span.now }
-    ensures kept { IfOk result (λ k. part_of_packet host meta.now file.now span.now ≡ part.Accepted k) }
+    ensures kept { IfOk result (λ r. IfSome r (λ k. part_of_packet host meta.now file.now span.now ≡ part.Accepted k)) }
+    ensures within { IfOk result (λ r. IfSome r (λ k. length k.events ≤ most)) }
+    ensures more { IfOk result (λ r. IfNone r (part_within most (part_of_packet host meta.now file.now span.now) ≡ None)) }
     ensures refused { (cause : Cause) → result ≡ Err (failure.Refused cause) → part_of_packet host meta.now file.now span.now ≡ part.Refused span.now.offset cause }
 {
     let mut reader = EventReader::open(alloc, meta, file, span)?;
     let mut events = Items::new(alloc);
     let mut incomplete = 0u64;
     while let Some(raw) = reader.next_event(alloc)? {
+        if events.len() as u64 >= most {
+            drop(events);
+            reader.skip_rest(alloc)?;
+            return Ok(None);
+        }
         let (kind, lacks) = kind_of(meta, layout, &raw);
         events.push(Event {
             time: raw.time,
@@ -108,11 +122,11 @@ fn accept_packet(
         incomplete += u64::from(lacks);
         reader.recycle(raw.fields);
     }
-    Ok(AcceptedPacket {
+    Ok(Some(AcceptedPacket {
         cpu: span.cpu,
         seq: span.seq,
         discarded: span.discarded,
         events,
         incomplete,
-    })
+    }))
 }

@@ -2,6 +2,7 @@
 #![tactic(auto)]
 
 mod all;
+mod batches;
 mod decoded_packet;
 mod decoding;
 mod files;
@@ -10,7 +11,7 @@ mod hosts;
 mod laws;
 mod listing;
 mod lost_events;
-mod packets;
+mod pieces;
 
 pub use all::{DecodeError, MAX_PACKETS, decode_all};
 pub use files::FileBytes;

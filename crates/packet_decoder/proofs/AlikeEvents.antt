@@ -1,14 +1,12 @@
 -- The events of packets are alike by two representations of one trace.
-use Rattle.std.proofs.Common.{◌≡◌, ◌∙◌, ℕ, zero, suc, Bool, true, false, cond, if◌then◌else◌, nat_eq, nat_lt, List, [], ◌∷◌, ◌++◌, length, drop, Option, Some, None, Result, Ok, Err, codes, option_map, position, slice_get, unwrap_or, refl, sym, ap, ap₂, subst}
+use Rattle.std.proofs.Common.{◌≡◌, ◌∙◌, ℕ, zero, suc, Bool, true, false, if◌then◌else◌, nat_eq, nat_lt, List, [], ◌∷◌, ◌++◌, length, drop, Option, Some, None, Result, Ok, Err, codes, option_map, position, slice_get, unwrap_or, refl, ap, ap₂, subst}
 use Rattle.std.specs.Map.{keys_of}
 use Rattle.std.specs.List.{AllByRecursion}
 use Rattle.type_table.specs.SameTrace.{AreBoth, IsSameEvent, IsSameTrace}
 use Rattle.type_table.specs.Table.{Table}
 use Rattle.type_table.specs.TraceMetas.{EventIn, IsSoundMeta, MetaParts, same_event}
-use Rattle.type_table.specs.declared.declared.ClockRate.{ClockRate}
 use Rattle.type_table.specs.declared.declared.EventId.{EventId}
 use Rattle.type_table.specs.declared.declared.EventParts.{EventParts}
-use Rattle.type_table.specs.declared.declared.StreamScopes.{StreamScopes}
 use Rattle.ctf_fields.specs.declared.open_struct.Scopes.{Scopes}
 use Rattle.ctf_fields.specs.declared.field.Field.{Field}
 use Rattle.ctf_fields.specs.declared.raw.RawEvent.{RawEvent}
@@ -21,9 +19,9 @@ use Rattle.ctf_fields.proofs.AlikeReading.{struct_alike}
 use Rattle.trace_types.specs.declared.cause.Cause.{Cause}
 use Rattle.trace_types.specs.declared.cause.Cause.TheVariants as cause
 use Rattle.packet_decoder.specs.Events.{Within, as_packet, as_result, cause_of, cleared, decoded, event, event_added, event_at, event_body, event_by, event_fields, event_head, event_of, event_timed, events_from, field_or_none, from_of, head_by, packet_events, scope_at, with_event_context, with_event_header, with_stream_context, within}
-use Rattle.packet_decoder.specs.PacketHeads.{and_then, packet_head, read_scope}
-use Rattle.packet_decoder.specs.Times.{clock_after, clock_of, in_range, rate_of, timestamp_in, time_of, time_after, usual_rate}
-use Rattle.packet_decoder.specs.Values.{id_in, number_named}
+use Rattle.packet_decoder.specs.PacketHeads.{and_then}
+use Rattle.packet_decoder.specs.Times.{clock_after, clock_of, in_range, rate_of, time_of, time_after, usual_rate}
+use Rattle.packet_decoder.specs.Values.{id_in}
 use Rattle.packet_decoder.specs.declared.events.Cursor.{Cursor}
 use Rattle.packet_decoder.specs.declared.events.EventHead.{EventHead}
 use Rattle.packet_decoder.specs.declared.packet_head.PacketHead.{PacketHead}

@@ -1,22 +1,19 @@
 -- The heads of packets are alike by two representations of one trace.
-use Rattle.std.proofs.Common.{◌≡◌, ◌∙◌, ℕ, ◌*◌, Bool, true, false, cond, if◌then◌else◌, nat_eq, List, [], ◌∷◌, length, Option, Some, None, Result, Ok, Err, codes, option_map, refl, sym, ap, ap₂, subst}
+use Rattle.std.proofs.Common.{◌≡◌, ◌∙◌, ℕ, Bool, true, false, cond, if◌then◌else◌, nat_eq, List, [], ◌∷◌, Option, Some, None, Result, Ok, Err, codes, option_map, refl, ap, subst}
 use Rattle.std.specs.Map.{lookup}
 use Rattle.type_table.specs.SameTrace.{AreBoth, IsSameStream, IsSameTrace, IsSameType}
-use Rattle.type_table.specs.Table.{Table, IsSoundTable, tree}
+use Rattle.type_table.specs.Table.{Table, IsSoundTable}
 use Rattle.type_table.specs.TraceMetas.{IfHere, IsSoundMeta, MetaParts, PlaceIn, StreamIn}
 use Rattle.type_table.specs.declared.declared.StreamScopes.{StreamScopes}
 use Rattle.std.specs.List.{AllByRecursion}
-use Rattle.ctf_fields.specs.declared.open_struct.Scopes.{Scopes}
-use Rattle.ctf_fields.specs.declared.error.FieldError.{FieldError}
 use Rattle.ctf_fields.specs.declared.field.Field.{Field}
 use Rattle.ctf_fields.specs.Named.{first_named}
 use Rattle.ctf_fields.specs.Reading.{From, Reads, Got, Fails, as_read, scope_read}
-use Rattle.ctf_fields.specs.Values.{number_named}
-use Rattle.ctf_fields.proofs.Alike.{Alike, AlikeIf, AlikeNumbers, AlikeScopes, ReadBoth, SameType}
+use Rattle.ctf_fields.proofs.Alike.{Alike, AlikeIf, AlikeScopes, ReadBoth, SameType}
 use Rattle.trace_types.specs.declared.cause.Cause.{Cause}
 use Rattle.trace_types.specs.declared.cause.Cause.TheVariants as cause
-use Rattle.packet_decoder.specs.PacketHeads.{by_context, by_header, by_stream, context_read, from_all, header_judged, packet_head, no_scopes, read_scope, stream_by, stream_of, with_context, with_header}
-use Rattle.packet_decoder.specs.Values.{uuid_matches, id_in, magic_matches}
+use Rattle.packet_decoder.specs.PacketHeads.{by_context, by_header, by_stream, context_read, from_all, header_judged, packet_head, no_scopes, read_scope, stream_by, stream_of, with_header}
+use Rattle.packet_decoder.specs.Values.{uuid_matches}
 use Rattle.packet_decoder.specs.declared.packet_head.PacketHead.{PacketHead}
 use Rattle.ctf_fields.proofs.AlikeFields.{first_alike, named_alike}
 use Rattle.ctf_fields.proofs.AlikeReading.{reads_alike}

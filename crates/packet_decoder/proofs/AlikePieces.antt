@@ -1,7 +1,6 @@
 -- The pieces of a stream file are the same by two representations of one trace.
-use Rattle.std.proofs.Common.{◌≡◌, ◌∙◌, ℕ, ℤ, zero, suc, ◌+◌, ◌*◌, ◌^◌, List, [], ◌∷◌, length, drop, Option, Some, None, Result, Ok, Err, codes, unwrap_or, refl, sym, ap, ap₂}
+use Rattle.std.proofs.Common.{◌≡◌, ◌∙◌, ℕ, zero, suc, ◌+◌, ◌*◌, ◌^◌, List, [], ◌∷◌, length, drop, Option, Some, None, Result, Ok, Err, codes, unwrap_or, refl, ap, ap₂}
 use Rattle.type_table.specs.SameTrace.{IsSameTrace}
-use Rattle.type_table.specs.Table.{Table}
 use Rattle.type_table.specs.TraceMetas.{IsSoundMeta, MetaParts}
 use Rattle.ctf_fields.specs.declared.field.Field.{Field}
 use Rattle.ctf_fields.specs.Values.{below_if_any, number_named, value_named}

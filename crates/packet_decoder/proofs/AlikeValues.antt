@@ -1,11 +1,9 @@
 -- The values of a packet's fields are the same by two representations of one trace.
-use Rattle.std.proofs.Common.{◌≡◌, ◌∙◌, ℕ, suc, ℤ, pos, ◌^◌, ◌==◌, ◌&&◌, Bool, true, false, List, [], ◌∷◌, length, Option, Some, None, if◌then◌else◌, refl, sym, ap, ap₂}
+use Rattle.std.proofs.Common.{◌≡◌, ◌∙◌, ℕ, suc, ℤ, pos, ◌^◌, ◌==◌, ◌&&◌, true, List, [], ◌∷◌, length, Option, Some, None, if◌then◌else◌, refl, sym, ap, ap₂}
 use Rattle.std.specs.Ordering.{int_eq}
 use Rattle.type_table.specs.Table.{Table, IsSoundTable}
 use Rattle.ctf_fields.specs.declared.field.Field.{Field, out-Field}
-use Rattle.ctf_fields.specs.declared.field.Field.TheOpen.{Field-F}
 use Rattle.ctf_fields.specs.Fields.{number_of}
-use Rattle.ctf_fields.specs.Reading.{integer_type}
 use Rattle.ctf_fields.proofs.Alike.{Alike, ints, texts, structs, choices, lists, AlikeItems, no_items, and_item, AlikeIf, AlikeNumbers}
 use Rattle.packet_decoder.specs.Times.{timestamp_by, timestamp_in}
 use Rattle.packet_decoder.specs.Values.{are_bytes, counter_by, counter_in, uuid_matches, id_in, is_byte, is_id, is_magic, magic_matches, below}

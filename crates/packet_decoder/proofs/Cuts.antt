@@ -6,6 +6,7 @@ use Rattle.trace_types.specs.declared.cause.Cause.{Cause}
 use Rattle.packet_decoder.specs.declared.piece.PacketSpan.{PacketSpan}
 use Rattle.packet_decoder.specs.declared.piece.Piece.{Piece}
 use Rattle.packet_decoder.specs.declared.piece.Piece.TheVariants.{Packet, Bad}
+use Rattle.packet_decoder.specs.Packets.{packets_in}
 use Rattle.packet_decoder.specs.Pieces.{AllLieIn, PieceLiesIn, packet_at, pieces_by, pieces_from}
 
 one_packet : (n m : ℕ) (meta : MetaParts) (offset : ℕ) (rest : List ℕ) (span : PacketSpan) → n ≡ suc m → 1 ≤ length rest → packet_at meta offset rest ≡ Ok span
@@ -62,3 +63,23 @@ ends_well meta file offset n found h = ap (λ ps. found ++ ps) (ap (pieces_from 
 pub lie_push : (file : List ℕ) (found : List Piece) (p : Piece) → AllLieIn file found → PieceLiesIn file p → AllLieIn file (found ++ p ∷ [])
 lie_push file [] p all h = (h, tt)
 lie_push file (q ∷ found) p all h = (all.0, lie_push file found p all.1 h)
+
+-- ---- how many packets there are
+
+pub packets_append : (ps qs : List Piece) → packets_in (ps ++ qs) ≡ packets_in ps + packets_in qs
+packets_append [] qs = omega arith
+packets_append (Packet span ∷ ps) qs = let rest = packets_append ps qs in omega (arith, rest)
+packets_append (Bad offset cause ∷ ps) qs = packets_append ps qs
+
+-- with a packet more, all are packets
+pub all_packets : (found : List Piece) (span : PacketSpan) → packets_in found ≡ length found → packets_in (found ++ Packet span ∷ []) ≡ length (found ++ Packet span ∷ [])
+all_packets found span all = omega (arith, all, packets_append found (Packet span ∷ []), length-append found (Packet span ∷ []))
+
+-- there is one more than those that were found, at least
+pub one_too_many : (found rest all : List Piece) (span : PacketSpan) (most : ℕ) → packets_in found ≡ length found → most ≤ length found → (found ++ Packet span ∷ []) ++ rest ≡ all → most < packets_in all
+one_too_many found rest all span most are many e =
+    let total : packets_in all ≡ packets_in (found ++ Packet span ∷ []) + packets_in rest = ap packets_in (sym e) ∙ packets_append (found ++ Packet span ∷ []) rest in
+    omega (arith, total, all_packets found span are, length-append found (Packet span ∷ []), many)
+
+pub few_with_rest : (found all : List Piece) (offset : ℕ) (cause : Cause) (most : ℕ) → packets_in found ≡ length found → length found ≤ most → all ≡ found ++ Bad offset cause ∷ [] → packets_in all ≤ most
+few_with_rest found all offset cause most are few e = omega (arith, ap packets_in e, packets_append found (Bad offset cause ∷ []), are, few)

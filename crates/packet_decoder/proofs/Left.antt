@@ -7,7 +7,7 @@ use Rattle.packet_decoder.specs.Events.{Within, as_packet, event, event_added, e
 use Rattle.packet_decoder.specs.PacketHeads.{Answers, and_then}
 use Rattle.packet_decoder.specs.declared.failure.Failure.{Failure}
 use Rattle.packet_decoder.specs.declared.failure.Failure.TheVariants.{Refused, OutOfMemory}
-use Rattle.packet_decoder.specs.Unread.{and_before}
+use Rattle.packet_decoder.specs.Unread.{and_before, refusal}
 use Rattle.trace_types.specs.declared.cause.Cause.{Cause}
 use Rattle.packet_decoder.specs.declared.events.Cursor.{Cursor}
 use Rattle.packet_decoder.proofs.Turns.{step_in}
@@ -72,3 +72,8 @@ one_more done raw (Err c) = refl
 
 pub at_last : (done : List RawEvent) → as_packet (behind done (Ok [])) ≡ packet.Events done
 at_last done = ap (λ l. packet.Events l) (append-nil done)
+
+-- an event before others leaves the cause
+pub same_refusal : (raw : RawEvent) (x : Answer) → refusal (and_before raw x) ≡ refusal x
+same_refusal raw (Ok es) = refl
+same_refusal raw (Err c) = refl

@@ -4,3 +4,4 @@ pub mod Pieces
 pub mod Times
 pub mod Values
 pub mod Unread
+pub mod Packets

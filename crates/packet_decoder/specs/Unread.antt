@@ -1,5 +1,5 @@
 -- A packet whose events are read one by one (the events are those of CTF 1.8, section 6; that they are read so is this project's own).
-use Rattle.std.specs.Prelude.{ℕ, ◌-◌, List, [], ◌∷◌, Result, Ok}
+use Rattle.std.specs.Prelude.{ℕ, ◌-◌, List, [], ◌∷◌, Option, None, Some, Result, Ok, Err}
 use Rattle.ctf_fields.specs.declared.open_struct.Scopes.{Scopes}
 use Rattle.ctf_fields.specs.declared.raw.RawEvent.{RawEvent}
 use Rattle.packet_decoder.specs.Events.{Within, events_from}
@@ -21,3 +21,8 @@ events_left u = events_from (u.within.end - u.read) u.within u.scopes [] u.curso
 -- an event before others
 abbrev pub and_before : RawEvent → Result (List RawEvent) Cause → Result (List RawEvent) Cause
 and_before raw rest = and_then rest (λ es. Ok (raw ∷ es))
+
+-- the cause for which the packet is refused, if it is
+abbrev pub refusal : Result (List RawEvent) Cause → Option Cause
+refusal (Ok events) = None
+refusal (Err cause) = Some cause

@@ -1,6 +1,7 @@
 //! Stream files, cut into packets.
-ghost use Rattle.std.specs.Prelude.{◌≡◌, ◌≤◌, ◌<◌, ◌+◌, ◌*◌, ◌^◌, IfOk, IfSome, drop, length};
+ghost use Rattle.std.specs.Prelude.{◌≡◌, ◌≤◌, ◌<◌, ◌+◌, ◌*◌, ◌^◌, IfNone, IfOk, IfSome, drop, length};
 ghost use Rattle.packet_decoder.specs.PacketHeads.{Answers};
+ghost use Rattle.packet_decoder.specs.Packets.{packets_in};
 ghost use Rattle.packet_decoder.specs.Pieces.{AllLieIn, LiesIn, packet_at, pieces, right_sizes, sizes, span_of};
 
 use crate::failure::Failure;
@@ -20,22 +21,45 @@ pub fn cut(alloc: Global, meta: &TraceMeta, file: &[u8]) -> Result<Items<Piece>,
     ensures pieces { IfOk result (λ found. found ≡ pieces meta.now file.now) }
     ensures inside { IfOk result (λ found. AllLieIn file.now found) }
 {
+    match cut_within(alloc, meta, file, u64::MAX)? {
+        Some(found) => Ok(found),
+        None => Err(OutOfMemory),
+    }
+}
+
+/// The pieces of a stream file, and none where more than `most` packets are among them: of those no more than `most` are
+/// kept.
+pub fn cut_within(
+    alloc: Global,
+    meta: &TraceMeta,
+    file: &[u8],
+    most: u64,
+) -> Result<Option<Items<Piece>>, OutOfMemory>
+    requires { length file.now ≤ 2 ^ 60 }
+    ensures pieces { IfOk result (λ r. IfSome r (λ found. found ≡ pieces meta.now file.now)) }
+    ensures inside { IfOk result (λ r. IfSome r (λ found. AllLieIn file.now found)) }
+    ensures within { IfOk result (λ r. IfSome r (λ found. packets_in (pieces meta.now file.now) ≤ most)) }
+    ensures more { IfOk result (λ r. IfNone r (most < packets_in (pieces meta.now file.now))) }
+{
     let mut found = Items::new(alloc);
     let mut offset = 0;
     while offset < file.len() as u64 {
         match packet_at(alloc, meta, offset, bytes_from(file, offset)) {
             Ok(span) => {
+                if found.len() as u64 >= most {
+                    return Ok(None);
+                }
                 found.push(Piece::Packet(span))?;
                 offset += span.bytes;
             }
             Err(Failure::Refused(cause)) => {
                 found.push(Piece::Bad { offset, cause })?;
-                return Ok(found);
+                return Ok(Some(found));
             }
             Err(Failure::OutOfMemory) => return Err(OutOfMemory),
         }
     }
-    Ok(found)
+    Ok(Some(found))
 }
 
 /// The bytes of a file from this one on.

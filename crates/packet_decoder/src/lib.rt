@@ -11,7 +11,7 @@ mod reader;
 mod times;
 mod values;
 
-pub use cutting::cut;
+pub use cutting::{cut, cut_within};
 pub use decoding::decode;
 pub use failure::Failure;
 pub use piece::{Counter, PacketResult, PacketSpan, Piece};

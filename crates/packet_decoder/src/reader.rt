@@ -1,8 +1,8 @@
 //! The events of a packet, read one by one.
-ghost use Rattle.std.specs.Prelude.{◌≡◌, ◌≤◌, ◌<◌, ◌+◌, ◌^◌, Ok, Err, IfOk, IfSome, IfNone, [], length};
+ghost use Rattle.std.specs.Prelude.{◌≡◌, ◌≤◌, ◌<◌, ◌+◌, ◌^◌, Ok, Err, None, Some, IfOk, IfSome, IfNone, OnOk, [], length};
 ghost use Rattle.packet_decoder.specs.Events.{as_packet, decoded};
 ghost use Rattle.packet_decoder.specs.Pieces.{LiesIn};
-ghost use Rattle.packet_decoder.specs.Unread.{and_before, events_left};
+ghost use Rattle.packet_decoder.specs.Unread.{and_before, events_left, refusal};
 ghost use Rattle.packet_decoder.specs.declared.failure.Failure.TheVariants as failure;
 ghost use Rattle.packet_decoder.specs.declared.piece.PacketResult.TheVariants as packet;
 ghost use Rattle.trace_types.specs.declared.cause.Cause.{Cause};
@@ -104,10 +104,27 @@ impl<'a> EventReader<'a> {
         Ok(Some(event))
     }
 
+    /// Reads the packet to its end, and keeps no event.
+    pub fn skip_rest(&mut self, alloc: Global) -> Result<(), Failure>
+        ensures accepted { OnOk result (refusal (events_left self.old) ≡ None) }
+        ensures refused { (cause : Cause) → result ≡ Err (failure.Refused cause) → refusal (events_left self.old) ≡ Some cause }
+    {
+        while let Some(raw) = self.next_event(alloc)? {
+            self.recycle(raw.fields);
+        }
+        Ok(())
+    }
+
     /// Takes the memory of an event's fields that are no longer needed.
     pub fn recycle(&mut self, fields: Field)
         ensures { self.new ≡ self.old }
     {
+        // the structure of an event without fields has no memory, and many of them would fill the list of what is kept
+        if let Field::Struct(members) = &fields {
+            if members.is_empty() {
+                return;
+            }
+        }
         self.scratch.recycle(fields);
     }
 }

@@ -1,16 +1,20 @@
-use Rattle.std.proofs.Common.{rules, arith, length}
-use Rattle.decode_pool.proofs.Counted.{more_counted, more_hosts, more_small}
+use Rattle.std.proofs.Common.{rules, ◌≡◌, ◌<◌, ◌≤◌, arith, length}
+use Rattle.decode_pool.specs.Hosts.{IsHost}
+use Rattle.decode_pool.specs.Jobs.{host_of}
+use Rattle.decode_pool.proofs.Counted.{all_found, more_hosts, one_counted}
 use Rattle.decode_pool.proofs.all.decode_hosts.Goals as goal
 
-pub returns-then-count-gt-MAX_EVENTS-clause-events : goal.returns-then-count-gt-MAX_EVENTS-clause-events
-returns-then-count-gt-MAX_EVENTS-clause-events g c = λ e.
-    let total = more_counted c.args.hosts.now c.loop-host.host-index c.host-item.result c.in_ok-events.events c.loop-host.count (length c.as_slice.result.now) c.in_ok-count.count (search rules) c.host-item.is c.in_ok-events.ensures (search rules) c.in_ok-count.ensures.sum c.loop-host.invariant.1 in
-    omega (arith, total, c.if-count-gt-MAX_EVENTS.true)
-
-pub loop-host-preserved : goal.loop-host-preserved
-loop-host-preserved g c = (
-  more_hosts c.args.hosts.now c.loop-host.host-index c.host-item.result c.loop-host.found.items c.push.new.self.items c.in_ok-events.events (search rules) c.host-item.is c.in_ok-push.ensures.items c.loop-host.invariant.0 c.in_ok-events.ensures,
-  more_counted c.args.hosts.now c.loop-host.host-index c.host-item.result c.in_ok-events.events c.loop-host.count (length c.as_slice.result.now) c.in_ok-count.count (search rules) c.host-item.is c.in_ok-events.ensures (search rules) c.in_ok-count.ensures.sum c.loop-host.invariant.1,
-  omega (arith, c.if-count-gt-MAX_EVENTS.false),
-  more_small c.args.hosts.now c.loop-host.host-index c.host-item.result (search rules) c.loop-host.invariant.3,
-)
+pub loop-pieces-preserved : goal.loop-pieces-preserved
+loop-pieces-preserved g c =
+    let cut = c.args.cut.now in
+    let i = c.loop-pieces.pieces-index in
+    let p = c.pieces-item.result in
+    let events = c.in-Some.events in
+    let below : i < length cut = search rules in
+    let is : IsHost (host_of p) events = search rules in
+    let size : length c.as_slice.result.now ≡ length events.events.items = search rules in
+    let within : length events.events.items ≤ c.loop-pieces.left = search rules in (
+      more_hosts cut i p c.loop-pieces.found.items c.push.new.self.items events below c.pieces-item.is c.in_ok-push.ensures.items c.loop-pieces.invariant.0 is,
+      omega (arith, one_counted cut i p below c.pieces-item.is, all_found (host_of p) events is, size, within, c.loop-pieces.invariant.1),
+      omega (arith, c.loop-pieces.invariant.2),
+    )

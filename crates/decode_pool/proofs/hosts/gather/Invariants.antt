@@ -3,7 +3,7 @@ use Rattle.decode_pool.specs.Hosts.{all_events, all_incomplete, all_packets, all
 use Rattle.decode_pool.proofs.hosts.gather.Given as goal
 
 abbrev pub invariant-loop-at : goal.invariant-loop-at
-invariant-loop-at g l = (l.gathered.events.items ++ all_events l.host.host l.host.meta (drop l.at l.host.files.items) ≡ all_events l.host.host l.host.meta l.host.files.items)
+invariant-loop-at l = (l.gathered.events.items ++ all_events l.host.host l.host.meta (drop l.at l.host.files.items) ≡ all_events l.host.host l.host.meta l.host.files.items)
     × (l.gathered.refused.items ++ all_refused l.host.host l.host.meta (drop l.at l.host.files.items) ≡ all_refused l.host.host l.host.meta l.host.files.items)
     × (l.gathered.packets + all_packets l.host.host l.host.meta (drop l.at l.host.files.items) ≡ all_packets l.host.host l.host.meta l.host.files.items)
     × (l.gathered.incomplete + all_incomplete l.host.host l.host.meta (drop l.at l.host.files.items) ≡ all_incomplete l.host.host l.host.meta l.host.files.items)

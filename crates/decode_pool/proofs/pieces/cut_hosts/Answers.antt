@@ -1,0 +1,25 @@
+use Rattle.std.proofs.Common.{rules, ◌≡◌, ◌<◌, ◌≤◌, ◌++◌, ◌∷◌, [], All, arith, get_or, length, subst, sym}
+use Rattle.std.proofs.lemmas.List.Elements.{All-push}
+use Rattle.decode_pool.specs.Jobs.{IsCut, host_of}
+use Rattle.decode_pool.specs.Limits.{host_packets}
+use Rattle.decode_pool.specs.declared.hosts.HostFiles.{HostFiles}
+use Rattle.decode_pool.proofs.Counted.{hosts_next, more_small, packets_more}
+use Rattle.decode_pool.proofs.pieces.cut_hosts.Goals as goal
+
+pub loop-at-preserved : goal.loop-at-preserved
+loop-at-preserved c =
+    let h : HostFiles = c.index-hosts-at.result in
+    let is : h ≡ get_or c.args.hosts.now c.loop-at.at h = c.index-hosts-at.is in
+    let below : c.loop-at.at < length c.args.hosts.now = search rules in
+    let pushed : c.push.new.self.items ≡ c.loop-at.cut.items ++ c.in-Some.pieces ∷ [] = search rules in
+    let cut : IsCut c.args.limits.events c.in-Some.pieces = search rules in
+    let of : host_of c.in-Some.pieces ≡ h = search rules in
+    let packets : c.in-Some.pieces.packets ≡ host_packets h.meta h.files.items = search rules in
+    let within : c.in-Some.pieces.packets ≤ c.loop-at.left.packets = search rules in (
+      subst (All (IsCut c.args.limits.events)) (sym pushed) (All-push (IsCut c.args.limits.events) c.loop-at.cut.items c.in-Some.pieces c.loop-at.invariant.0 cut),
+      hosts_next c.args.hosts.now c.loop-at.cut.items c.push.new.self.items c.loop-at.at c.in-Some.pieces h below is of pushed c.loop-at.invariant.1,
+      (more_small c.args.hosts.now c.loop-at.at h below c.loop-at.invariant.2 is).1,
+      omega (arith, packets_more c.args.hosts.now c.loop-at.at h below is, packets, within, c.loop-at.invariant.3),
+      omega (arith, c.loop-at.invariant.4),
+      c.loop-at.invariant.5,
+    )

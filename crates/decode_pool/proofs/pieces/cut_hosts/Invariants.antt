@@ -1,0 +1,13 @@
+use Rattle.std.proofs.Common.{◌≡◌, ◌≤◌, ◌+◌, ◌++◌, All, drop, map}
+use Rattle.std.specs.List.{AllByRecursion}
+use Rattle.decode_pool.specs.Jobs.{IsCut, host_of}
+use Rattle.decode_pool.specs.Limits.{HasSmallFiles, packet_count}
+use Rattle.decode_pool.proofs.pieces.cut_hosts.Given as goal
+
+abbrev pub invariant-loop-at : goal.invariant-loop-at
+invariant-loop-at l = All (IsCut l.fn.limits.events) l.cut.items
+    × (map host_of l.cut.items ++ drop l.at l.hosts ≡ l.hosts)
+    × AllByRecursion HasSmallFiles (drop l.at l.hosts)
+    × (l.left.packets + packet_count l.hosts ≡ l.fn.limits.packets + packet_count (drop l.at l.hosts))
+    × (l.left.packets ≤ l.fn.limits.packets)
+    × (l.left.events ≡ l.fn.limits.events)

@@ -1,0 +1,9 @@
+use Rattle.std.proofs.Common.{◌≡◌, ◌-◌}
+use Rattle.packet_decoder.specs.Unread.{events_left, refusal}
+use Rattle.packet_decoder.proofs.reader.EventReader.skip_rest.Given as goal
+
+abbrev pub invariant-loop-raw : goal.invariant-loop-raw
+invariant-loop-raw l = refusal (events_left l.self) ≡ refusal (events_left l.fn.self)
+
+abbrev pub decreases-loop-raw : goal.decreases-loop-raw
+decreases-loop-raw l = l.self.within.end - l.self.read
