@@ -1,0 +1,71 @@
+-- One node of a chain ends, and the chain goes on above it.
+use Rattle.std.proofs.Common.{◌≡◌, ◌≢◌, inl, inr, ℕ, ◌<◌, List, [], ◌∷◌, length, None, Some, refl, sym, ap, ◌∙◌, subst, arith, set}
+use Rattle.history_nodes.specs.declared.node.Node.{Node}
+use Rattle.history_nodes.specs.Nodes.{node_at, ended}
+use Rattle.history_tree.specs.Tree.{IsAmong}
+use Rattle.history_tree.specs.Placement.{LeadUp}
+use Rattle.history_tree.specs.Climbing.{AreClimbed, AreOpen}
+use Rattle.history_tree.proofs.Steps.{at_other}
+use Rattle.history_tree.proofs.Growing.{ended_stays}
+use Rattle.history_tree.proofs.Climbs.{height, same_some, lead_begins, lead_same}
+
+-- a chain that begins below the node that it ends at
+pub record Begins (nodes : List Node) (from top : ℕ) : Type 0 where
+  pub rest : List ℕ
+  pub parent : (above : ℕ) × ((node_at nodes from).parent ≡ Some above)
+  pub there : from < length nodes
+  pub unended : (node_at nodes from).end ≡ None
+  pub fresh : IsAmong from rest → ⊥
+  pub up : LeadUp nodes (node_at nodes from).parent rest (Some top)
+  pub goes_on : AreOpen nodes rest
+
+pub begins : (nodes : List Node) (from top : ℕ) (ns : List ℕ) → from ≢ top → LeadUp nodes (Some from) ns (Some top) → AreOpen nodes ns → Begins nodes from top
+begins nodes from top [] ne up o = absurd (ne (same_some from top up))
+begins nodes from top (n ∷ ns) ne up o = subst (λ k. Begins nodes k top) (sym (same_some from n up.0)) (record { rest = ns; parent = lead_begins nodes (node_at nodes n).parent ns top up.1; there = o.0; unended = o.1; fresh = o.2; up = up.1; goes_on = o.3 })
+
+open_after : (nodes : List Node) (n end : ℕ) (ns : List ℕ) → n < length nodes → (IsAmong n ns → ⊥) → AreOpen nodes ns → AreOpen (set nodes n (ended end (node_at nodes n))) ns
+open_after nodes n end [] there fresh o = tt
+open_after nodes n end (m ∷ ns) there fresh o = (
+  omega (arith, (ended_stays nodes n end there).len, o.0),
+  ap (λ (x : Node). x.end) (at_other nodes n m (ended end (node_at nodes n)) (λ e. fresh (inl e))) ∙ o.1,
+  o.2,
+  open_after nodes n end ns there (λ k. fresh (inr k)) o.3,
+)
+
+climbed_after : (nodes : List Node) (n end : ℕ) → n < length nodes → AreClimbed nodes → AreClimbed (set nodes n (ended end (node_at nodes n)))
+climbed_after nodes n end there c =
+    let s = ended_stays nodes n end there in
+    record {
+      parents = λ m p lt e. let a = c.parents m p (omega (arith, s.len)) (sym (s.parent m) ∙ e) in record { there = omega (arith, s.len, a.there); level = omega (arith, s.level p, s.level m, a.level) };
+      few = λ m lt. omega (arith, s.len, s.level m, c.few m (omega (arith, s.len)));
+    }
+
+-- after the first node of a chain has ended
+pub record GoesOn (nodes new : List Node) (above top : ℕ) : Type 0 where
+  pub climbed : AreClimbed new
+  pub numbers : List ℕ
+  pub up : LeadUp new (Some above) numbers (Some top)
+  pub unended : AreOpen new numbers
+
+pub goes_on : (nodes : List Node) (from top above end : ℕ) → AreClimbed nodes → Begins nodes from top → (node_at nodes from).parent ≡ Some above → GoesOn nodes (set nodes from (ended end (node_at nodes from))) above top
+goes_on nodes from top above end c b e =
+    let s = ended_stays nodes from end b.there in
+    record {
+      climbed = climbed_after nodes from end b.there c;
+      numbers = b.rest;
+      up = lead_same nodes (set nodes from (ended end (node_at nodes from))) (Some above) b.rest (Some top) s.parent (subst (λ o. LeadUp nodes o b.rest (Some top)) e b.up);
+      unended = open_after nodes from end b.rest b.there b.fresh b.goes_on;
+    }
+
+-- the node above is nearer to the number of nodes
+pub goes_up : (nodes : List Node) (from above end : ℕ) → AreClimbed nodes → from < length nodes → (node_at nodes from).parent ≡ Some above → height (set nodes from (ended end (node_at nodes from))) (Some above) < height nodes (Some from)
+goes_up nodes from above end c there e =
+    let s = ended_stays nodes from end there in
+    let a = c.parents from above there e in
+    omega (arith, s.len, s.level above, a.level, c.few from there)
+
+-- the chain before the first node ended
+pub chain_before : (nodes : List Node) (from above top end : ℕ) (ns : List ℕ) → from < length nodes → (node_at nodes from).parent ≡ Some above → LeadUp (set nodes from (ended end (node_at nodes from))) (Some above) ns (Some top) → LeadUp nodes (Some from) (from ∷ ns) (Some top)
+chain_before nodes from above top end ns there e up =
+    let s = ended_stays nodes from end there in
+    (refl, subst (λ o. LeadUp nodes o ns (Some top)) (sym e) (lead_same (set nodes from (ended end (node_at nodes from))) nodes (Some above) ns (Some top) (λ n. sym (s.parent n)) up))

@@ -1,0 +1,103 @@
+//! Steps along the latest branch: up to a node with room, and down to a new leaf.
+ghost use Rattle.std.specs.Prelude.{◌≡◌, ◌+◌, ◌-◌, ◌<◌, ◌≤◌, ◌^◌, length, List, ℕ, None, Some};
+ghost use Rattle.std.specs.Option.{ForSome};
+ghost use Rattle.history_nodes.specs.Nodes.{node_at};
+ghost use Rattle.history_nodes.specs.declared.children.TheConstants.{MAX_CHILDREN};
+ghost use Rattle.history_tree.specs.Placement.{LeadUp, IsFirst, has_rooms, takes, with_root_node, all_ended, with_branch};
+ghost use Rattle.history_tree.specs.Climbing.{AreClimbed, AreOpen};
+
+use history_nodes::{Node, Nodes};
+
+/// Of a node and those above it the first that has room for a record and a child.
+pub fn first_with_rooms(nodes: &Nodes, from: Option<usize>) -> Option<usize>
+    requires climbed { AreClimbed nodes.now.nodes }
+    requires from { ForSome from (λ n. n < length nodes.now.nodes) }
+    ensures { IsFirst has_rooms nodes.now.nodes from result }
+{
+    let number = from?;
+    if has_rooms(nodes, number) {
+        return from;
+    }
+    first_with_rooms(nodes, nodes.shape(number).parent)
+}
+
+// Whether a node has room for a record and for a child.
+fn has_rooms(nodes: &Nodes, number: usize) -> bool
+    requires { number < length nodes.now.nodes }
+    ensures { result ≡ has_rooms (node_at nodes.now.nodes number) }
+{
+    nodes.has_room(number) && nodes.has_child_room(number)
+}
+
+/// Of a node and those above it the first that began by an instant and has room for a record.
+pub fn first_that_takes(nodes: &Nodes, from: Option<usize>, start: u64) -> Option<usize>
+    requires climbed { AreClimbed nodes.now.nodes }
+    requires from { ForSome from (λ n. n < length nodes.now.nodes) }
+    ensures { IsFirst (takes start) nodes.now.nodes from result }
+{
+    let number = from?;
+    if takes(nodes, number, start) {
+        return from;
+    }
+    first_that_takes(nodes, nodes.shape(number).parent, start)
+}
+
+// Whether a node began by an instant and has room for a record.
+fn takes(nodes: &Nodes, number: usize, start: u64) -> bool
+    requires { number < length nodes.now.nodes }
+    ensures { result ≡ takes start (node_at nodes.now.nodes number) }
+{
+    nodes.shape(number).start <= start && nodes.has_room(number)
+}
+
+/// Makes a new root above the old one, and answers its number. There is room for it.
+pub fn add_root(nodes: &mut Nodes, root: usize) -> usize
+    requires root { root < length nodes.old.nodes }
+    requires alone { (node_at nodes.old.nodes root).parent ≡ None }
+    requires few { (node_at nodes.old.nodes root).level < length nodes.old.nodes }
+    requires spare { 0 < nodes.old.spare }
+    ensures number { result ≡ length nodes.old.nodes }
+    ensures nodes { nodes.new.nodes ≡ with_root_node root nodes.old.nodes }
+    ensures spare { nodes.new.spare + 1 ≡ nodes.old.spare }
+{
+    let above = nodes.len();
+    let level = nodes.shape(root).level + 1;
+    nodes.push(Node::new(level, 0)).unwrap();
+    nodes.adopt(above, root);
+    above
+}
+
+/// Ends the ranges of a node and of those above it, below another.
+pub fn close_below(nodes: &mut Nodes, from: usize, top: usize, end: u64)
+    requires climbed { AreClimbed nodes.old.nodes }
+    requires up { (numbers : List ℕ) × LeadUp nodes.old.nodes (Some from) numbers (Some top) × AreOpen nodes.old.nodes numbers }
+    ensures nodes { (numbers : List ℕ) × LeadUp nodes.old.nodes (Some from) numbers (Some top) × (nodes.new.nodes ≡ all_ended end numbers nodes.old.nodes) }
+    ensures spare { nodes.new.spare ≡ nodes.old.spare }
+{
+    if from == top {
+        return;
+    }
+    let above = nodes.shape(from).parent;
+    nodes.close(from, end);
+    close_below(nodes, above.unwrap(), top, end);
+}
+
+/// Makes a node for each level below a parent, down to a leaf, and answers the number of the last one. There is room for
+/// them.
+pub fn open_below(nodes: &mut Nodes, parent: usize, start: u64) -> usize
+    requires parent { parent < length nodes.old.nodes }
+    requires room { length (node_at nodes.old.nodes parent).children < MAX_CHILDREN }
+    requires spare { (node_at nodes.old.nodes parent).level ≤ nodes.old.spare }
+    ensures nodes { nodes.new.nodes ≡ with_branch parent (node_at nodes.old.nodes parent).level start nodes.old.nodes }
+    ensures leaf { (node_at nodes.old.nodes parent).level ≡ 0 → result ≡ parent }
+    ensures newest { 0 < (node_at nodes.old.nodes parent).level → result ≡ length nodes.new.nodes - 1 }
+    ensures spare { nodes.new.spare + (node_at nodes.old.nodes parent).level ≡ nodes.old.spare }
+{
+    let level = nodes.shape(parent).level;
+    if level == 0 {
+        return parent;
+    }
+    let child = nodes.push(Node::new(level - 1, start)).unwrap();
+    nodes.adopt(parent, child);
+    open_below(nodes, child, start)
+}

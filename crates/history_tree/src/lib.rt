@@ -1,0 +1,10 @@
+//! The tree of a history's nodes: where intervals are placed, and how they are found.
+#![tactic(auto)]
+
+mod branch;
+mod room;
+mod tree;
+mod visit;
+
+pub use tree::Tree;
+pub use visit::Visit;

@@ -1,0 +1,136 @@
+//! The tree: intervals go in, and are found by their number and an instant.
+ghost use Rattle.std.specs.Prelude.{◌≡◌, ◌+◌, ◌<◌, ◌≤◌, ◌^◌, ℕ, [], ◌∷◌, Some, None, IfOk, IfSome, IfNone, OnOk, OnErr};
+ghost use Rattle.std.specs.FinMap.{get};
+ghost use Rattle.trace_types.specs.declared.limits.TheConstants.{TIME_END};
+ghost use Rattle.trace_types.specs.declared.value.Value.{Value};
+ghost use Rattle.history_nodes.specs.Nodes.{opened};
+ghost use Rattle.history_tree.specs.Tree.{IsTree, levels_of, tree_of};
+ghost use Rattle.history_tree.specs.Records.{content_of, with_interval, IsAt, IsFree, IsHeld};
+ghost use Rattle.history_tree.specs.Placement.{IsPlaced};
+ghost use Rattle.history_tree.specs.Ways.{IsWay};
+
+use crate::branch::first_that_takes;
+use crate::room::{found_or_root, make_ready};
+use crate::visit::Visit;
+use history_nodes::{Interval, Node, Nodes, Reads};
+use std::alloc::Global;
+use std::marker::Model;
+use trace_types::OutOfMemory;
+
+/// A tree of nodes that hold intervals. Contracts see the nodes by number, the numbers of the root and of the newest leaf,
+/// and the greatest end that was stored, in ns; 0 while none was.
+#[derive(Debug, Drop)]
+pub struct Tree {
+    nodes: Nodes,
+    root: usize,
+    leaf: usize,
+    greatest: u64,
+}
+
+impl Model for Tree {
+    ghost use Rattle.history_tree.specs.Tree.{NodeTree, IsTree, tree_of};
+
+    ghost Value = { NodeTree };
+
+    ghost view = { λ t. tree_of t.nodes.nodes t.root t.leaf t.greatest };
+
+    ghost invariant = { λ t. IsTree (tree_of t.nodes.nodes t.root t.leaf t.greatest) };
+}
+
+impl Tree {
+    /// A tree of one leaf, of level 0 and start 0. The only error is lack of memory.
+    pub fn new(alloc: Global) -> Result<Tree, OutOfMemory>
+        ensures { IfOk result (λ tree. tree ≡ tree_of (opened 0 0 ∷ []) 0 0 0) }
+    {
+        let mut nodes = Nodes::new(alloc);
+        let leaf = nodes.push(Node::new(0, 0))?;
+        Ok(Tree {
+            nodes,
+            root: leaf,
+            leaf,
+            greatest: 0,
+        })
+    }
+
+    /// Stores an interval that no stored one of its number meets. When memory runs out, nothing has changed.
+    pub fn insert(&mut self, interval: Interval) -> Result<(), OutOfMemory>
+        requires free { IsFree (content_of self.old.nodes) interval }
+        ensures content { OnOk result (content_of self.new.nodes ≡ with_interval interval (content_of self.old.nodes)) }
+        ensures placed { OnOk result (IsPlaced self.old interval self.new) }
+        ensures err { OnErr result (self.new ≡ self.old) }
+    {
+        let more = self.levels() + 2;
+        self.nodes.reserve(more)?;
+        let (leaf, greatest) = (self.leaf, self.greatest);
+        let end = greatest.max(interval.end);
+        let leaf = make_ready(&mut self.nodes, &mut self.root, leaf, greatest);
+        let found = first_that_takes(&self.nodes, Some(leaf), interval.start);
+        let number = found_or_root(&mut self.nodes, &mut self.root, found);
+        self.nodes.put(number, interval);
+        self.leaf = leaf;
+        self.greatest = end;
+        Ok(())
+    }
+
+    /// How many levels the tree has. Every tree is one of nested nodes.
+    pub fn levels(&self) -> usize
+        ensures levels { result ≡ levels_of self.now }
+        ensures few { levels_of self.now < 2 ^ 63 }
+        ensures tree { IsTree self.now }
+    {
+        let _nodes = self.nodes.len();
+        self.nodes.shape(self.root).level + 1
+    }
+
+    /// The way from the root to the leaf whose range holds an instant, in ns. It takes no memory.
+    pub fn path(&self, t: u64) -> Visit<'_>
+        requires { t < TIME_END }
+        ensures { IsWay self.now t result }
+    {
+        Visit::new(&self.nodes, t, self.root)
+    }
+
+    /// The stored interval of a number that holds an instant, in ns. It reads at most one node of each level, and takes no
+    /// memory.
+    pub fn find(&self, number: usize, t: u64, reads: &mut Reads) -> Option<Interval>
+        requires time { t < TIME_END }
+        requires few { reads.old + levels_of self.now < 2 ^ 64 }
+        ensures found { IfSome result (λ i. IsHeld (content_of self.now.nodes) i × (i.number ≡ number) × IsAt t i) }
+        ensures none { IfNone result ((s e : ℕ) (v : Value) → get (content_of self.now.nodes) (number ∷ s ∷ []) ≡ Some (e, v) → s ≤ t → t ≤ e → ⊥) }
+        ensures rises { reads.old ≤ reads.new }
+        ensures few_reads { reads.new ≤ reads.old + levels_of self.now }
+    {
+        let mut visit = self.path(t);
+        while let Some(node) = visit.next() {
+            let found = self.nodes.node(node, reads).intervals.find(number, t);
+            if found.is_some() {
+                return found;
+            }
+        }
+        None
+    }
+}
+
+#[cfg(test)]
+mod tests {
+    use super::*;
+    use std::test::Fail;
+
+    // There is no second list of intervals beside the nodes.
+    #[test]
+    fn a_tree_is_its_nodes(rt: HostRuntime) -> Result<(), Fail> {
+        let Tree {
+            nodes,
+            root,
+            leaf,
+            greatest,
+        } = Tree::new(rt.alloc())?;
+        let nodes: Nodes = nodes;
+        let numbers: (usize, usize) = (root, leaf);
+        let greatest: u64 = greatest;
+        assert_eq!(rt; nodes.len(), 1);
+        assert_eq!(rt; numbers, (0, 0));
+        assert_eq!(rt; greatest, 0);
+        Ok(())
+    }
+}
