@@ -1,0 +1,13 @@
+pub mod Joins
+pub mod Levels
+pub mod Ranges
+pub mod Times
+pub mod Ways
+pub mod Wholes
+pub mod Places
+pub mod Filters
+pub mod Up
+pub mod Brought
+pub mod Clocks
+pub mod Parts
+pub mod Kept
