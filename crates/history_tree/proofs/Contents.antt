@@ -13,6 +13,7 @@ use Rattle.history_nodes.specs.declared.interval.Interval.{Interval}
 use Rattle.history_tree.specs.Records.{key_of, entry_of, map_of, with_interval, IsApart, AreApart, IsFree}
 use Rattle.history_tree.proofs.Stored.{IsBetween}
 
+-- the interval is one of these
 abbrev pub IsMember : Interval → List Interval → Type 0
 IsMember i [] = ⊥
 IsMember i (j ∷ js) = (j ≡ i) ⊎ IsMember i js
@@ -88,6 +89,7 @@ find_member (j ∷ js) i a (inr m) = rw (other_key (key_of i) (key_of j) (λ e. 
 pub get_member : (is : List Interval) (i : Interval) → AreApart is → IsMember i is → get (map_of is) (key_of i) ≡ Some (i.end, i.value)
 get_member is i a m = get-from_entries nat_list_cmp_total (map entry_of is) (key_of i) ∙ find_member is i a m
 
+-- one of these intervals has this key, end and value
 pub record IsOf (is : List Interval) (q : List ℕ) (x : ℕ × Value) : Type 0 where
   pub interval : Interval
   pub member : IsMember interval is

@@ -55,6 +55,7 @@ ended_stays nodes n e there =
     let links = ended_links nodes (set nodes n (ended e (node_at nodes n))) n e (is_ended nodes n e there) in
     record { len = length-set nodes n (ended e (node_at nodes n)); parent = λ m. (links m).parent; level = λ m. (links m).level; children = λ m. (links m).children }
 
+-- a tree whose nodes have ended along a branch
 pub record HasGrown (old new : List Node) (tip root greatest : ℕ) : Type 0 where
   pub nesting : IsNesting new tip greatest
   pub rooted : IsRooted new root

@@ -9,6 +9,7 @@ use Rattle.history_tree.specs.Tree.{IsAmong, AreAdjacent, IsChild, IsParent}
 use Rattle.history_tree.proofs.Steps.{IsEnded}
 use Rattle.history_tree.proofs.Ranges.{HasSameRange, adjacent_same, adjacent_closed, last_at_none, none_at_last, end_within}
 
+-- nodes that are linked and whose ranges nest
 pub record IsNesting (nodes : List Node) (newest greatest : ℕ) : Type 0 where
   pub leaves : (n : ℕ) → n < length nodes → (node_at nodes n).level ≡ 0 → (node_at nodes n).children ≡ []
   pub children : (n c : ℕ) → n < length nodes → IsAmong c (node_at nodes n).children → IsChild nodes n c
@@ -20,6 +21,7 @@ pub record IsNesting (nodes : List Node) (newest greatest : ℕ) : Type 0 where
   pub newest_there : newest < length nodes
   pub newest_open : (node_at nodes newest).end ≡ None
 
+-- the one node without a parent
 pub record IsRooted (nodes : List Node) (root : ℕ) : Type 0 where
   pub there : root < length nodes
   pub none : (node_at nodes root).parent ≡ None

@@ -60,6 +60,7 @@ pub adjacent_push : (nodes : List Node) (from : ℕ) (cs : List ℕ) (c mid to :
 adjacent_push nodes from [] c mid to h s e = (s ∙ sym h, e)
 adjacent_push nodes from (d ∷ cs) c mid to h s e = (h.0, adjacent_push nodes (end_of (node_at nodes d) + 1) cs c mid to h.1 s e)
 
+-- a node's range lies between two instants
 pub record IsWithin (nodes : List Node) (from to n : ℕ) : Type 0 where
   pub begins : from ≤ (node_at nodes n).start
   pub ends : end_of (node_at nodes n) + 1 ≤ to

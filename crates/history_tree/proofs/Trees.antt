@@ -8,6 +8,7 @@ use Rattle.history_tree.proofs.Ranges.{last_at_none, none_at_last, end_within}
 use Rattle.history_tree.proofs.Nesting.{IsNesting, IsRooted}
 use Rattle.history_tree.proofs.Growing.{parent_open}
 
+-- a tree, as a growing one whose newest node is a leaf
 pub record IsGrown (t : NodeTree) : Type 0 where
   pub filled : AreFilled t.nodes t.greatest
   pub nesting : IsNesting t.nodes t.leaf t.greatest

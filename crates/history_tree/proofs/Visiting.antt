@@ -18,6 +18,7 @@ get_among (x ∷ xs) (suc k) d h = inr (get_among xs k d (omega arith))
 pub children_there : (nodes : List Node) (n : ℕ) → AreDescended nodes → n < length nodes → All (λ c. c < length nodes) (node_at nodes n).children
 children_there nodes n a there k d h = (a.children n (get_or (node_at nodes n).children k d) there (get_among (node_at nodes n).children k d h)).there
 
+-- one of these numbers passes the test
 pub record IsPicked (test : ℕ → Bool) (xs : List ℕ) (c : ℕ) : Type 0 where
   pub among : IsAmong c xs
   pub passes : test c ≡ true
@@ -118,6 +119,7 @@ descended t h = record {
   leaves = h.nested.leaves;
 }
 
+-- a way that begins at a node
 pub record LeadsFrom (t : NodeTree) (time n : ℕ) (way : List ℕ) : Type 0 where
   pub rest : List ℕ
   pub begins : way ≡ n ∷ rest

@@ -38,6 +38,7 @@ takes start node = nat_le node.start start && has_room node
 abbrev pub with_root_node : ℕ → List Node → List Node
 with_root_node root nodes = adopted (length nodes) root (nodes ++ opened ((node_at nodes root).level + 1) 0 ∷ [])
 
+-- the tree with it
 abbrev pub with_root : NodeTree → NodeTree
 with_root t = record t { nodes = with_root_node t.root t.nodes; root = length t.nodes }
 

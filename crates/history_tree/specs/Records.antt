@@ -31,6 +31,7 @@ AreApart (i ∷ is) = AllByRecursion (IsApart i) is × AreApart is
 abbrev pub key_of : Interval → List ℕ
 key_of i = i.number ∷ i.start ∷ []
 
+-- an interval as an entry of a map: its key, and its end and value
 abbrev pub entry_of : Interval → List ℕ × (ℕ × Value)
 entry_of i = (key_of i, (i.end, i.value))
 
@@ -38,6 +39,7 @@ entry_of i = (key_of i, (i.end, i.value))
 abbrev pub Content : Type 0
 Content = FinMap (slice_cmp nat_cmp) (ℕ × Value)
 
+-- the map of these intervals
 abbrev pub map_of : List Interval → Content
 map_of is = from_entries (map entry_of is)
 

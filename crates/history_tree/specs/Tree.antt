@@ -16,6 +16,7 @@ pub record NodeTree : Type 0 where
   pub leaf : ℕ
   pub greatest : ℕ
 
+-- the tree of these parts
 abbrev pub tree_of : List Node → ℕ → ℕ → ℕ → NodeTree
 tree_of nodes root leaf greatest = record { nodes = nodes; root = root; leaf = leaf; greatest = greatest }
 

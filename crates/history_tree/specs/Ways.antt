@@ -34,6 +34,7 @@ pub record IsBelow (nodes : List Node) (high low : ℕ) : Type 0 where
   pub there : low < length nodes
   pub level : (node_at nodes low).level + 1 ≡ (node_at nodes high).level
 
+-- so it is of all nodes
 pub record AreDescended (nodes : List Node) : Type 0 where
   pub children : (n c : ℕ) → n < length nodes → IsAmong c (node_at nodes n).children → IsBelow nodes n c
   pub leaves : (n : ℕ) → n < length nodes → (node_at nodes n).level ≡ 0 → (node_at nodes n).children ≡ []

@@ -1,5 +1,5 @@
 -- Lists that are brought to another clock keep their order, and tests on the events themselves.
-use Rattle.std.proofs.Common.{◌≡◌, ◌≤◌, ℕ, Bool, true, false, cond, List, [], ◌∷◌, map, filter, refl, sym, ap, ap₂, ◌∙◌, subst}
+use Rattle.std.proofs.Common.{◌≡◌, ℕ, Bool, true, false, cond, List, [], ◌∷◌, map, filter, refl, sym, ap₂, subst}
 use Rattle.clock_fraction.specs.ClockMap.{IsMapAt}
 use Rattle.clock_fraction.specs.declared.pair_map.PairMap.{PairMap}
 use Rattle.clock_fraction.proofs.Means.{maps_rise}

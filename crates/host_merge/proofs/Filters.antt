@@ -1,10 +1,9 @@
 -- Sorts, filters and lists that are joined, in any order.
-use Rattle.std.proofs.Common.{◌≡◌, ◌≢◌, ◌<◌, ◌≤◌, ◌+◌, ◌⊎◌, inl, inr, ℕ, zero, suc, Bool, true, false, cond, if◌then◌else◌, Some, List, [], ◌∷◌, ◌++◌, length, map, filter, take, slice_get, count_by, nat_lt, refl, sym, ap, ap₂, ◌∙◌, subst, arith, add-one, le_trans, lt-ltb, le-ltb}
+use Rattle.std.proofs.Common.{◌≡◌, ◌≢◌, ◌<◌, ◌≤◌, ◌+◌, ◌⊎◌, inl, inr, ℕ, zero, suc, Bool, true, false, cond, if◌then◌else◌, List, [], ◌∷◌, ◌++◌, filter, nat_lt, refl, sym, ap, ap₂, ◌∙◌, arith, add-one, le_trans, lt-ltb, le-ltb}
 use Rattle.std.specs.List.{flat_map, range_with_len}
 use Rattle.std.proofs.lemmas.Bool.{cases_lt, cases_eq}
 use Rattle.std.proofs.lemmas.List.{append-nil}
 use Rattle.std.proofs.lemmas.List.Elements.{filter-append}
-use Rattle.std.proofs.lemmas.List.Sums.{sum_by-cons}
 use Rattle.stable_sort.specs.Sorted.{put_in, sorted}
 use Rattle.stable_sort.proofs.Unique.{InOrder, NoneBelow, is_sorted, sorted_rises}
 use Rattle.host_merge.proofs.Ranges.{below_no, below_yes, flat_push}

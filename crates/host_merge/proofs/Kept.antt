@@ -1,6 +1,6 @@
 -- A merge keeps the order of each host's events.
-use Rattle.std.proofs.Common.{◌≡◌, ◌≢◌, ◌<◌, ◌≤◌, ◌==◌, ℕ, zero, suc, Bool, true, false, not, cond, All, Some, List, [], ◌∷◌, length, get_or, map, filter, slice_get, nat_lt, refl, sym, ap, ◌∙◌, subst, arith, lt-ltb}
-use Rattle.std.proofs.lemmas.Bool.{eq-eqb, eqb-true, ltb-true, le-ltb}
+use Rattle.std.proofs.Common.{◌≡◌, ◌<◌, ◌≤◌, ◌==◌, ℕ, zero, suc, Bool, true, false, not, cond, All, Some, List, [], ◌∷◌, length, get_or, map, filter, slice_get, nat_lt, refl, sym, ap, ◌∙◌, subst, arith, lt-ltb}
+use Rattle.std.proofs.lemmas.Bool.{eq-eqb, eqb-true, ltb-true}
 use Rattle.std.proofs.lemmas.Option.{slice_get_within}
 use Rattle.clock_fraction.specs.declared.pair_map.PairMap.{PairMap}
 use Rattle.host_tree.specs.declared.parent.Parent.{Parent}

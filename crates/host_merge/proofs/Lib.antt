@@ -11,3 +11,7 @@ pub mod Brought
 pub mod Clocks
 pub mod Parts
 pub mod Kept
+pub mod Spots
+pub mod Sends
+pub mod Theirs
+pub mod One

@@ -1,7 +1,7 @@
 -- The events of some hosts in a merge: they stand as in the list of a host that stands above all of them.
-use Rattle.std.proofs.Common.{◌≡◌, ◌≢◌, ◌<◌, ◌≤◌, ◌+◌, ◌⊎◌, inl, inr, ℕ, zero, suc, Bool, true, false, cond, Option, None, Some, List, [], ◌∷◌, ◌++◌, length, map, filter, slice_get, refl, sym, ap, ap₂, ◌∙◌, subst, arith}
+use Rattle.std.proofs.Common.{◌≡◌, ◌≢◌, ◌<◌, ◌≤◌, ◌+◌, ℕ, zero, suc, Bool, true, false, cond, Some, List, [], ◌∷◌, ◌++◌, length, map, filter, slice_get, refl, sym, ap, ap₂, ◌∙◌, subst, arith}
 use Rattle.std.specs.List.{flat_map, range_with_len}
-use Rattle.std.proofs.lemmas.Bool.{cases_eq, eq-eqb, eqb-true}
+use Rattle.std.proofs.lemmas.Bool.{eq-eqb}
 use Rattle.std.proofs.lemmas.List.{append-nil}
 use Rattle.std.proofs.lemmas.List.Elements.{filter-append}
 use Rattle.std.proofs.lemmas.Option.{slice_get_within}
@@ -15,12 +15,12 @@ use Rattle.trace_types.specs.declared.event.Event.{Event}
 use Rattle.trace_types.specs.declared.event.Merged.{Merged}
 use Rattle.trace_types.specs.declared.host.HostEvents.{HostEvents}
 use Rattle.host_merge.specs.Kept.{HasListed}
-use Rattle.host_merge.specs.Merge.{AreBrought, IsMergeOf, by_key, children_of, is_parent, is_root, roots_of, with_own_time}
+use Rattle.host_merge.specs.Merge.{IsMergeOf, by_key, children_of, is_parent, is_root, roots_of, with_own_time}
 use Rattle.host_merge.proofs.Brought.{brought_events, brought_filter, brought_order, event_of, key_of, none_brought}
 use Rattle.host_merge.proofs.Filters.{filter_flat, filter_order, filter_sorted, flat_none, flat_one, sorted_same}
 use Rattle.host_merge.proofs.Levels.{is_parent_of}
 use Rattle.host_merge.proofs.Up.{OnWay, Up, also_above, joined_up, no_deeper, one_at_depth, root_above, up_depth, up_within}
-use Rattle.host_merge.proofs.Ways.{above, depth_below, depth_within, one_depth, root_depth}
+use Rattle.host_merge.proofs.Ways.{above, depth_below, depth_within, one_depth}
 use Rattle.host_merge.proofs.Wholes.{root_is}
 
 -- own events that all fail a test

@@ -1,10 +1,10 @@
 -- Which hosts stand above a host.
-use Rattle.std.proofs.Common.{◌≡◌, ◌≢◌, ◌<◌, ◌≤◌, ◌+◌, ℕ, zero, suc, Some, List, length, slice_get, refl, sym, ap, ◌∙◌, subst, arith}
+use Rattle.std.proofs.Common.{◌≡◌, ◌<◌, ◌≤◌, ◌+◌, ℕ, zero, suc, Some, List, length, slice_get, refl, sym, ap, ◌∙◌, subst, arith}
 use Rattle.std.proofs.lemmas.Option.{slice_get_within}
 use Rattle.clock_fraction.specs.declared.pair_map.PairMap.{PairMap}
 use Rattle.host_tree.specs.declared.parent.Parent.{Parent}
 use Rattle.host_tree.specs.declared.parent.Parent.TheVariants.{Root, Child}
-use Rattle.host_tree.specs.Rooted.{IsAtDepth, LeadToRoots}
+use Rattle.host_tree.specs.Rooted.{IsAtDepth}
 use Rattle.host_merge.proofs.Ways.{above, one_depth}
 
 module _ (parents : List Parent) where

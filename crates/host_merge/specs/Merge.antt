@@ -25,12 +25,13 @@ AreBrought map [] (y ∷ ys) = ⊥
 AreBrought map (x ∷ xs) [] = ⊥
 AreBrought map (x ∷ xs) (y ∷ ys) = (y.event ≡ x.event) × IsMapAt map x.key y.key × AreBrought map xs ys
 
--- whether this is the parent
+-- whether the parent is this host
 abbrev pub is_parent : ℕ → Option Parent → Bool
 is_parent host None = false
 is_parent host (Some Root) = false
 is_parent host (Some (Child parent map)) = parent == host
 
+-- whether this is a root
 abbrev pub is_root : Option Parent → Bool
 is_root None = false
 is_root (Some Root) = true

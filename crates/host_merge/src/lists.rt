@@ -65,10 +65,15 @@ impl MergedList {
         sort_merged(alloc, &mut self.events)
     }
 
-    pub fn append(&mut self, events: &[Merged]) -> Result<(), OutOfMemory>
-        ensures { OnOk result (self.new ≡ self.old ++ events.now) }
+    /// Appends the events of another list on the same clock.
+    pub fn append(&mut self, other: MergedList) -> Result<(), OutOfMemory>
+        ensures { OnOk result (self.new ≡ self.old ++ other) }
     {
-        self.events.extend_from_slice(events)?;
+        if self.events.is_empty() {
+            self.events = other.events;
+            return Ok(());
+        }
+        self.events.extend_from_slice(other.as_slice())?;
         Ok(())
     }
 

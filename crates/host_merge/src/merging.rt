@@ -2,6 +2,7 @@
 ghost use Rattle.std.specs.Prelude.{◌≡◌, ◌≢◌, ◌<◌, ◌∷◌, [], IfOk, OnOk, length, map, slice_get};
 ghost use Rattle.std.specs.List.{flat_map};
 ghost use Rattle.host_merge.specs.Depths.{AreDepths};
+ghost use Rattle.host_merge.specs.Kept.{AreInTime, AreOwn, KeepsOrder};
 ghost use Rattle.host_merge.specs.Lists.{AllAreTimed, AreBroughtUp, AreTimed, IsBroughtUp, own_lists, sorted_at};
 ghost use Rattle.host_merge.specs.Merge.{HaveTimes, IsMergeOf, roots_of};
 ghost use Rattle.host_tree.specs.Rooted.{LeadToRoots};
@@ -29,6 +30,7 @@ pub fn merge(
     ensures exact { IfOk result (λ merged. IsMergeOf forest.now.items hosts.now merged.items) }
     ensures order { IfOk result (λ merged. RiseFrom 0 merged.items) }
     ensures times { IfOk result (λ merged. AreTimed merged.items) }
+    ensures kept { AreOwn hosts.now → AreInTime hosts.now → IfOk result (λ merged. KeepsOrder hosts.now merged.items) }
 {
     let depths = depths_of(alloc, forest)?;
     let mut lists = lists_of(alloc, hosts)?;
@@ -113,7 +115,7 @@ fn join_roots(
         };
         let mut list = mem::replace(&mut lists[host], MergedList::new(alloc));
         list.sort(alloc)?;
-        whole.append(list.as_slice())?;
+        whole.append(list)?;
     }
     Ok(whole)
 }

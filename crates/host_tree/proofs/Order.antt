@@ -99,8 +99,18 @@ module _ (hosts : ℕ) (fits : List Fit) where
             held root host p.2.0 p.2.2.root_is (p.2.2.root_is.least root (c.0, way)) (last_free c.0 root host c.1) (cases_lt p.2.0 root)),
       );
       levels = λ root host n r. (over n root host r, forgotten n root host);
+      next = λ root level parent host l u f none.
+          let way : Leads (IsUsablePair hosts fits) root (suc level) host = (parent, l.here, u) in
+          let p = placed host u.child_in in (
+            held root host p.2.0 p.2.2.root_is (p.2.2.root_is.least root (suc level, way)) f (cases_lt p.2.0 root),
+            record { here = way; least = λ n c. later level n (none n) c (cases_lt level n) },
+          );
     }
       where
+        later : (level n : ℕ) {C : Type 0} → (n ≤ level → ¬ C) → C → (level < n) ⊎ (n ≤ level) → suc level ≤ n
+        later level n none c (inl more) = more
+        later level n none c (inr less) = absurd (none less c)
+
         held : (root host r : ℕ) → IsRootOf (IsUsablePair hosts fits) r host → r ≤ root → IsFree hosts fits root host → (r < root) ⊎ (root ≤ r) → IsRootOf (IsUsablePair hosts fits) root host
         held root host r is low f (inl less) = absurd (f r less is)
         held root host r is low f (inr more) = let same : r ≡ root = omega arith in subst (λ x. IsRootOf (IsUsablePair hosts fits) x host) same is

@@ -1,9 +1,9 @@
 -- The forest as it grows by hand: the roots ascending, and each tree over the hosts that no earlier one holds (this project's own).
-use Rattle.std.specs.Prelude.{ℕ, zero, suc, ◌≡◌, ◌<◌, ◌↔◌, Some, List, slice_get}
+use Rattle.std.specs.Prelude.{ℕ, zero, suc, ◌≡◌, ◌<◌, ◌≤◌, ◌↔◌, Some, List, slice_get}
 use Rattle.hull_lines.specs.declared.outcome.Fit.{Fit}
 use Rattle.host_tree.specs.declared.parent.Parent.{Parent}
 use Rattle.host_tree.specs.declared.parent.Parent.TheVariants.{Root, Child}
-use Rattle.host_tree.specs.Forest.{AreParents, IsRootOf, IsUsablePair, Leads}
+use Rattle.host_tree.specs.Forest.{AreParents, IsLevelOf, IsRootOf, IsUsablePair, Leads}
 
 -- a chain of so many usable pairs leads from one host to another, over hosts of a kind
 abbrev pub LeadsOver : (ℕ → ℕ → Type 0) → (ℕ → Type 0) → ℕ → ℕ → ℕ → Type 0
@@ -15,6 +15,7 @@ module _ (hosts : ℕ) (fits : List Fit) where
   abbrev pub IsFree : ℕ → ℕ → Type 0
   IsFree root host = (earlier : ℕ) → earlier < root → ¬ IsRootOf (IsUsablePair hosts fits) earlier host
 
+  -- the roots in their order, the hosts of their trees, and the levels of these
   pub record AreInOrder (parents : List Parent) : Type 0 where
     -- the roots are the hosts that no earlier root's tree holds
     pub roots : (host : ℕ) → host < hosts → (slice_get parents host ≡ Some Root) ↔ IsFree host host
@@ -22,6 +23,9 @@ module _ (hosts : ℕ) (fits : List Fit) where
     pub trees : (root host : ℕ) → slice_get parents root ≡ Some Root → IsRootOf (IsUsablePair hosts fits) root host ↔ ((n : ℕ) × LeadsOver (IsUsablePair hosts fits) (IsFree root) root n host)
     -- and all chains from its root to a host are over such hosts, so the levels are those of these chains
     pub levels : (root host n : ℕ) → IsRootOf (IsUsablePair hosts fits) root host → Leads (IsUsablePair hosts fits) root n host ↔ LeadsOver (IsUsablePair hosts fits) (IsFree root) root n host
+    -- the next level holds each host that has no place yet and is usable from a host of this level
+    pub next : (root level parent host : ℕ) → IsLevelOf (IsUsablePair hosts fits) root level parent → IsUsablePair hosts fits parent host → IsFree root host → ((n : ℕ) → n ≤ level → ¬ Leads (IsUsablePair hosts fits) root n host)
+        → IsRootOf (IsUsablePair hosts fits) root host × IsLevelOf (IsUsablePair hosts fits) root (suc level) host
 
 -- each forest is in this order
 abbrev pub AllAreInOrder : Type 0

@@ -22,8 +22,8 @@ loop-host-preserved c =
     sym (i.1 host (omega arith)) ∙ (slice_get_read lists (length lists) host c.index_mut.result.now refl (omega arith) c.index_mut.ensures.value ∙ ap Some (sym c.replace-list.ensures.value)) in (
       length-set lists host c.replace-list.new.dest ∙ i.0,
       λ k h. beside_set lists host k c.replace-list.new.dest (λ s. omega (arith, s)) ∙ i.1 k (omega arith),
-      c.in_ok-append.ensures ∙ (ap (λ l. c.loop-host.whole ++ l) (c.as_slice.ensures ∙ c.in_ok-sort.ensures) ∙ one_root_more parents old host c.loop-host.whole c.replace-list.result root at i.2),
-      subst AreTimed (sym (c.in_ok-append.ensures ∙ ap (λ l. c.loop-host.whole ++ l) (c.as_slice.ensures ∙ c.in_ok-sort.ensures))) (timed_append c.loop-host.whole (by_key c.replace-list.result) i.3 (timed_sorted c.replace-list.result (c.requires.times host c.replace-list.result at))),
+      c.in_ok-append.ensures ∙ (ap (λ l. c.loop-host.whole ++ l) c.in_ok-sort.ensures ∙ one_root_more parents old host c.loop-host.whole c.replace-list.result root at i.2),
+      subst AreTimed (sym (c.in_ok-append.ensures ∙ ap (λ l. c.loop-host.whole ++ l) c.in_ok-sort.ensures)) (timed_append c.loop-host.whole (by_key c.replace-list.result) i.3 (timed_sorted c.replace-list.result (c.requires.times host c.replace-list.result at))),
     )
 
 pub loop-host-preserved-in_default : goal.loop-host-preserved-in_default

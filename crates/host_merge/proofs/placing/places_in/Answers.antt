@@ -1,7 +1,6 @@
-use Rattle.std.proofs.Common.{◌+◌, get_or, subst, sym, take}
+use Rattle.std.proofs.Common.{get_or}
 use Rattle.std.proofs.lemmas.Option.{slice_get-get_or}
 use Rattle.message_match.specs.declared.message.Message.{Message}
-use Rattle.host_merge.specs.Placed.{ArePlaced}
 use Rattle.host_merge.proofs.Places.{placed_more}
 use Rattle.host_merge.proofs.placing.places_in.Goals as goal
 
@@ -11,6 +10,6 @@ loop-message-preserved c =
     let messages = c.args.messages.now in
     let i = c.loop-message.message-index in
     let none : Message = record { sent = 0; received = 0; from = 0; send = 0; to = 0; receive = 0 } in
-    subst (ArePlaced merged (take (i + 1) messages)) (sym c.in_ok-push.ensures.items)
+    rw (c.in_ok-push.ensures.items)
     (placed_more merged messages i (get_or messages i none) c.loop-message.placed.items (record { send = c.place_of.result; receive = c.place_of-in-loop-message.result })
     c.loop-message-test.true (slice_get-get_or messages i none c.loop-message-test.true) c.place_of.ensures c.place_of-in-loop-message.ensures c.loop-message.invariant)

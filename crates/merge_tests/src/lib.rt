@@ -1,0 +1,7 @@
+//! Tests of the merge of hosts.
+#![tactic(auto)]
+
+#[cfg(test)]
+mod hosts;
+#[cfg(test)]
+mod worked;
