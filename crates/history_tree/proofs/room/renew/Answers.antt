@@ -6,61 +6,25 @@ use Rattle.history_tree.proofs.Placing.{tree_climbed, open_chain}
 use Rattle.history_tree.proofs.Renewing.{above_leaf, can_at, after_close, is_renewal}
 use Rattle.history_tree.proofs.room.renew.Goals as goal
 
-pub first_with_rooms-found-requires-clause-climbed :
-    goal.first_with_rooms-found-requires-clause-climbed
-first_with_rooms-found-requires-clause-climbed c =
-    let t = tree_of c.args.nodes.now.nodes c.args.root.now c.args.leaf c.args.end in tree_climbed t (grown_tree t c.requires.tree)
+pub first_with_rooms-found-requires : goal.first_with_rooms-found-requires
+first_with_rooms-found-requires c =
+    let t = tree_of c.args.nodes.now.nodes c.args.root.now c.args.leaf c.args.end in
+    record {
+      climbed = tree_climbed t (grown_tree t c.requires.tree);
+      from = λ n e. above_leaf t c.requires.tree n (sym (ap (λ (s : Shape). s.parent) c.shape.ensures) ∙ e);
+    }
 
-pub first_with_rooms-found-requires-clause-from : goal.first_with_rooms-found-requires-clause-from
-first_with_rooms-found-requires-clause-from c =
-    λ n e. above_leaf (tree_of c.args.nodes.now.nodes c.args.root.now c.args.leaf c.args.end) c.requires.tree n (sym (ap (λ (s : Shape). s.parent) c.shape.ensures) ∙ e)
-
-pub close_below-requires-clause-climbed : goal.close_below-requires-clause-climbed
-close_below-requires-clause-climbed c =
+pub close_below-requires : goal.close_below-requires
+close_below-requires c =
     let t = tree_of c.args.nodes.now.nodes c.args.root.now c.args.leaf c.args.end in
     let t1 = tree_of c.found_or_root-top.new.nodes.nodes c.found_or_root-top.new.root c.args.leaf c.args.end in
-    let can = can_at t t1 c.first_with_rooms-found.result c.shape.result.parent c.found_or_root-top.result c.requires.tree c.requires.full c.first_with_rooms-found.ensures
-    (ap (λ (s : Shape). s.parent) c.shape.ensures) (c.found_or_root-top.ensures.tree c.args.leaf c.args.end) c.found_or_root-top.ensures.number in
-    tree_climbed t1 can.grown
+    let up = ap (λ (s : Shape). s.parent) c.shape.ensures in
+    let is_t = c.found_or_root-top.ensures.tree c.args.leaf c.args.end in
+    let can = can_at t t1 c.first_with_rooms-found.result c.shape.result.parent c.found_or_root-top.result c.requires.tree c.requires.full c.first_with_rooms-found.ensures up is_t c.found_or_root-top.ensures.number in
+    record { climbed = tree_climbed t1 can.grown; up = (can.numbers, can.up, open_chain t1 c.found_or_root-top.result _ can) }
 
-pub close_below-requires-clause-up : goal.close_below-requires-clause-up
-close_below-requires-clause-up c =
-    let t = tree_of c.args.nodes.now.nodes c.args.root.now c.args.leaf c.args.end in
-    let t1 = tree_of c.found_or_root-top.new.nodes.nodes c.found_or_root-top.new.root c.args.leaf c.args.end in
-    let can = can_at t t1 c.first_with_rooms-found.result c.shape.result.parent c.found_or_root-top.result c.requires.tree c.requires.full c.first_with_rooms-found.ensures
-    (ap (λ (s : Shape). s.parent) c.shape.ensures) (c.found_or_root-top.ensures.tree c.args.leaf c.args.end) c.found_or_root-top.ensures.number in
-    (can.numbers, can.up, open_chain t1 c.found_or_root-top.result _ can)
-
-pub open_below-requires-clause-parent : goal.open_below-requires-clause-parent
-open_below-requires-clause-parent c =
-    let t = tree_of c.args.nodes.now.nodes c.args.root.now c.args.leaf c.args.end in
-    let t1 = tree_of c.found_or_root-top.new.nodes.nodes c.found_or_root-top.new.root c.args.leaf c.args.end in
-    let can = can_at t t1 c.first_with_rooms-found.result c.shape.result.parent c.found_or_root-top.result c.requires.tree c.requires.full c.first_with_rooms-found.ensures
-    (ap (λ (s : Shape). s.parent) c.shape.ensures) (c.found_or_root-top.ensures.tree c.args.leaf c.args.end) c.found_or_root-top.ensures.number in
-    let closed = c.close_below.ensures.nodes in
-    (after_close t1 c.close_below.new.nodes.nodes c.found_or_root-top.result _ closed.0 can closed.1 closed.2).there
-
-pub open_below-requires-clause-room : goal.open_below-requires-clause-room
-open_below-requires-clause-room c =
-    let t = tree_of c.args.nodes.now.nodes c.args.root.now c.args.leaf c.args.end in
-    let t1 = tree_of c.found_or_root-top.new.nodes.nodes c.found_or_root-top.new.root c.args.leaf c.args.end in
-    let can = can_at t t1 c.first_with_rooms-found.result c.shape.result.parent c.found_or_root-top.result c.requires.tree c.requires.full c.first_with_rooms-found.ensures
-    (ap (λ (s : Shape). s.parent) c.shape.ensures) (c.found_or_root-top.ensures.tree c.args.leaf c.args.end) c.found_or_root-top.ensures.number in
-    let closed = c.close_below.ensures.nodes in
-    (after_close t1 c.close_below.new.nodes.nodes c.found_or_root-top.result _ closed.0 can closed.1 closed.2).room
-
-pub open_below-requires-clause-spare : goal.open_below-requires-clause-spare
-open_below-requires-clause-spare c =
-    let t = tree_of c.args.nodes.now.nodes c.args.root.now c.args.leaf c.args.end in
-    let t1 = tree_of c.found_or_root-top.new.nodes.nodes c.found_or_root-top.new.root c.args.leaf c.args.end in
-    let can = can_at t t1 c.first_with_rooms-found.result c.shape.result.parent c.found_or_root-top.result c.requires.tree c.requires.full c.first_with_rooms-found.ensures
-    (ap (λ (s : Shape). s.parent) c.shape.ensures) (c.found_or_root-top.ensures.tree c.args.leaf c.args.end) c.found_or_root-top.ensures.number in
-    let closed = c.close_below.ensures.nodes in
-    let after = after_close t1 c.close_below.new.nodes.nodes c.found_or_root-top.result _ closed.0 can closed.1 closed.2 in
-    omega (arith, after.level, can.low, c.requires.spare, c.found_or_root-top.ensures.spare, c.close_below.ensures.spare)
-
-pub returns-clause-renewal : goal.returns-clause-renewal
-returns-clause-renewal c =
+pub open_below-requires : goal.open_below-requires
+open_below-requires c =
     let t = tree_of c.args.nodes.now.nodes c.args.root.now c.args.leaf c.args.end in
     let t1 = tree_of c.found_or_root-top.new.nodes.nodes c.found_or_root-top.new.root c.args.leaf c.args.end in
     let up = ap (λ (s : Shape). s.parent) c.shape.ensures in
@@ -68,15 +32,23 @@ returns-clause-renewal c =
     let can = can_at t t1 c.first_with_rooms-found.result c.shape.result.parent c.found_or_root-top.result c.requires.tree c.requires.full c.first_with_rooms-found.ensures up is_t c.found_or_root-top.ensures.number in
     let closed = c.close_below.ensures.nodes in
     let after = after_close t1 c.close_below.new.nodes.nodes c.found_or_root-top.result _ closed.0 can closed.1 closed.2 in
-    is_renewal t t1 c.first_with_rooms-found.result c.shape.result.parent closed.0 c.found_or_root-top.result c.open_below.result c.close_below.new.nodes.nodes c.open_below.new.nodes.nodes
-    c.first_with_rooms-found.ensures up is_t c.found_or_root-top.ensures.number closed.1 closed.2 after c.open_below.ensures.nodes (c.open_below.ensures.newest (omega (arith, after.level, can.high)))
+    record {
+      parent = after.there;
+      room = after.room;
+      spare = omega (arith, after.level, can.low, c.requires.spare, c.found_or_root-top.ensures.spare, c.close_below.ensures.spare);
+    }
 
-pub returns-clause-spare : goal.returns-clause-spare
-returns-clause-spare c =
+pub returns : goal.returns
+returns c =
     let t = tree_of c.args.nodes.now.nodes c.args.root.now c.args.leaf c.args.end in
     let t1 = tree_of c.found_or_root-top.new.nodes.nodes c.found_or_root-top.new.root c.args.leaf c.args.end in
-    let can = can_at t t1 c.first_with_rooms-found.result c.shape.result.parent c.found_or_root-top.result c.requires.tree c.requires.full c.first_with_rooms-found.ensures
-    (ap (λ (s : Shape). s.parent) c.shape.ensures) (c.found_or_root-top.ensures.tree c.args.leaf c.args.end) c.found_or_root-top.ensures.number in
+    let up = ap (λ (s : Shape). s.parent) c.shape.ensures in
+    let is_t = c.found_or_root-top.ensures.tree c.args.leaf c.args.end in
+    let can = can_at t t1 c.first_with_rooms-found.result c.shape.result.parent c.found_or_root-top.result c.requires.tree c.requires.full c.first_with_rooms-found.ensures up is_t c.found_or_root-top.ensures.number in
     let closed = c.close_below.ensures.nodes in
     let after = after_close t1 c.close_below.new.nodes.nodes c.found_or_root-top.result _ closed.0 can closed.1 closed.2 in
-    omega (arith, after.level, can.low, c.found_or_root-top.ensures.spare, c.close_below.ensures.spare, c.open_below.ensures.spare)
+    record {
+      renewal = is_renewal t t1 c.first_with_rooms-found.result c.shape.result.parent closed.0 c.found_or_root-top.result c.open_below.result c.close_below.new.nodes.nodes c.open_below.new.nodes.nodes
+          c.first_with_rooms-found.ensures up is_t c.found_or_root-top.ensures.number closed.1 closed.2 after c.open_below.ensures.nodes (c.open_below.ensures.newest (omega (arith, after.level, can.high)));
+      spare = omega (arith, after.level, can.low, c.found_or_root-top.ensures.spare, c.close_below.ensures.spare, c.open_below.ensures.spare);
+    }

@@ -1,4 +1,4 @@
-use Rattle.std.proofs.Common.{◌<◌, length, subst}
+use Rattle.std.proofs.Common.{rules, ◌<◌, length, subst}
 use Rattle.history_tree.specs.Tree.{tree_of}
 use Rattle.history_tree.specs.Placement.{IsReady}
 use Rattle.history_tree.proofs.Climbs.{same_some}
@@ -7,57 +7,34 @@ use Rattle.history_tree.proofs.Trees.{grown_tree}
 use Rattle.history_tree.proofs.Inserting.{grown_ready, taken_by, is_placed, tree_placed}
 use Rattle.history_tree.proofs.tree.Tree.insert.Goals as goal
 
-pub first_that_takes-found-requires-clause-climbed :
-    goal.first_that_takes-found-requires-clause-climbed
-first_that_takes-found-requires-clause-climbed c =
+pub first_that_takes-found-requires : goal.first_that_takes-found-requires
+first_that_takes-found-requires c =
     let old = tree_of c.self.inside.nodes.nodes c.self.inside.root c.self.inside.leaf c.self.inside.greatest in
     let t = tree_of c.make_ready-leaf.new.nodes.nodes c.make_ready-leaf.new.root c.make_ready-leaf.result c.self.inside.greatest in
     let ready : IsReady old t = rw c.in_ok-reserve.ensures.nodes at c.make_ready-leaf.ensures.ready in
-    tree_climbed t (grown_ready old t c.self.invariant ready)
+    let grown = grown_ready old t c.self.invariant ready in
+    record {
+      climbed = tree_climbed t grown;
+      from = λ n e. subst (λ k. k < length t.nodes) (same_some c.make_ready-leaf.result n e) grown.nesting.newest_there;
+    }
 
-pub first_that_takes-found-requires-clause-from : goal.first_that_takes-found-requires-clause-from
-first_that_takes-found-requires-clause-from c =
+pub found_or_root-number-requires : goal.found_or_root-number-requires
+found_or_root-number-requires c =
     let old = tree_of c.self.inside.nodes.nodes c.self.inside.root c.self.inside.leaf c.self.inside.greatest in
     let t = tree_of c.make_ready-leaf.new.nodes.nodes c.make_ready-leaf.new.root c.make_ready-leaf.result c.self.inside.greatest in
     let ready : IsReady old t = rw c.in_ok-reserve.ensures.nodes at c.make_ready-leaf.ensures.ready in
-    λ n e. subst (λ k. k < length t.nodes) (same_some c.make_ready-leaf.result n e) (grown_ready old t c.self.invariant ready).nesting.newest_there
+    let grown = grown_ready old t c.self.invariant ready in
+    record { root = grown.rooted.there; alone = grown.rooted.none; few = grown.rooted.few_levels; spare = search rules }
 
-pub found_or_root-number-requires-clause-root : goal.found_or_root-number-requires-clause-root
-found_or_root-number-requires-clause-root c =
-    let old = tree_of c.self.inside.nodes.nodes c.self.inside.root c.self.inside.leaf c.self.inside.greatest in
-    let t = tree_of c.make_ready-leaf.new.nodes.nodes c.make_ready-leaf.new.root c.make_ready-leaf.result c.self.inside.greatest in
-    let ready : IsReady old t = rw c.in_ok-reserve.ensures.nodes at c.make_ready-leaf.ensures.ready in
-    (grown_ready old t c.self.invariant ready).rooted.there
-
-pub found_or_root-number-requires-clause-alone : goal.found_or_root-number-requires-clause-alone
-found_or_root-number-requires-clause-alone c =
-    let old = tree_of c.self.inside.nodes.nodes c.self.inside.root c.self.inside.leaf c.self.inside.greatest in
-    let t = tree_of c.make_ready-leaf.new.nodes.nodes c.make_ready-leaf.new.root c.make_ready-leaf.result c.self.inside.greatest in
-    let ready : IsReady old t = rw c.in_ok-reserve.ensures.nodes at c.make_ready-leaf.ensures.ready in
-    (grown_ready old t c.self.invariant ready).rooted.none
-
-pub found_or_root-number-requires-clause-few : goal.found_or_root-number-requires-clause-few
-found_or_root-number-requires-clause-few c =
-    let old = tree_of c.self.inside.nodes.nodes c.self.inside.root c.self.inside.leaf c.self.inside.greatest in
-    let t = tree_of c.make_ready-leaf.new.nodes.nodes c.make_ready-leaf.new.root c.make_ready-leaf.result c.self.inside.greatest in
-    let ready : IsReady old t = rw c.in_ok-reserve.ensures.nodes at c.make_ready-leaf.ensures.ready in
-    (grown_ready old t c.self.invariant ready).rooted.few_levels
-
-pub put-requires-clause-number : goal.put-requires-clause-number
-put-requires-clause-number c =
+pub put-requires : goal.put-requires
+put-requires c =
     let old = tree_of c.self.inside.nodes.nodes c.self.inside.root c.self.inside.leaf c.self.inside.greatest in
     let t = tree_of c.make_ready-leaf.new.nodes.nodes c.make_ready-leaf.new.root c.make_ready-leaf.result c.self.inside.greatest in
     let t1 = tree_of c.found_or_root-number.new.nodes.nodes c.found_or_root-number.new.root c.make_ready-leaf.result c.self.inside.greatest in
     let ready : IsReady old t = rw c.in_ok-reserve.ensures.nodes at c.make_ready-leaf.ensures.ready in
-    (taken_by t t1 c.args.interval c.first_that_takes-found.result c.found_or_root-number.result (grown_ready old t c.self.invariant ready) c.first_that_takes-found.ensures (c.found_or_root-number.ensures.tree c.make_ready-leaf.result c.self.inside.greatest) c.found_or_root-number.ensures.number).there
-
-pub put-requires-clause-room : goal.put-requires-clause-room
-put-requires-clause-room c =
-    let old = tree_of c.self.inside.nodes.nodes c.self.inside.root c.self.inside.leaf c.self.inside.greatest in
-    let t = tree_of c.make_ready-leaf.new.nodes.nodes c.make_ready-leaf.new.root c.make_ready-leaf.result c.self.inside.greatest in
-    let t1 = tree_of c.found_or_root-number.new.nodes.nodes c.found_or_root-number.new.root c.make_ready-leaf.result c.self.inside.greatest in
-    let ready : IsReady old t = rw c.in_ok-reserve.ensures.nodes at c.make_ready-leaf.ensures.ready in
-    (taken_by t t1 c.args.interval c.first_that_takes-found.result c.found_or_root-number.result (grown_ready old t c.self.invariant ready) c.first_that_takes-found.ensures (c.found_or_root-number.ensures.tree c.make_ready-leaf.result c.self.inside.greatest) c.found_or_root-number.ensures.number).room
+    let takes = taken_by t t1 c.args.interval c.first_that_takes-found.result c.found_or_root-number.result (grown_ready old t c.self.invariant ready) c.first_that_takes-found.ensures
+    (c.found_or_root-number.ensures.tree c.make_ready-leaf.result c.self.inside.greatest) c.found_or_root-number.ensures.number in
+    record { number = takes.there; room = takes.room }
 
 pub invariant_of-self-2 : goal.invariant_of-self-2
 invariant_of-self-2 c =
@@ -86,7 +63,6 @@ returns-clause-placed c =
     let old = tree_of c.self.inside.nodes.nodes c.self.inside.root c.self.inside.leaf c.self.inside.greatest in
     let t = tree_of c.make_ready-leaf.new.nodes.nodes c.make_ready-leaf.new.root c.make_ready-leaf.result c.self.inside.greatest in
     let t1 = tree_of c.found_or_root-number.new.nodes.nodes c.found_or_root-number.new.root c.make_ready-leaf.result c.self.inside.greatest in
-    let new = tree_of c.put.new.self.nodes c.found_or_root-number.new.root c.make_ready-leaf.result c.max-end.result in
     let ready : IsReady old t = rw c.in_ok-reserve.ensures.nodes at c.make_ready-leaf.ensures.ready in
     let placed = is_placed old t t1 c.args.interval c.first_that_takes-found.result c.found_or_root-number.result c.max-end.result c.put.new.self.nodes ready c.first_that_takes-found.ensures
     (c.found_or_root-number.ensures.tree c.make_ready-leaf.result c.self.inside.greatest) c.found_or_root-number.ensures.number c.put.ensures.nodes c.max-end.ensures in
