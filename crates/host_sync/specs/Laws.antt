@@ -1,0 +1,41 @@
+-- What holds of hosts that are brought to one clock (this project's own).
+use Rattle.std.specs.Prelude.{ℕ, ◌≡◌, ◌<◌, Contains, Some, List, length, slice_get}
+use Rattle.trace_types.specs.declared.host.HostEvents.{HostEvents}
+use Rattle.message_match.specs.declared.message.Message.{Message}
+use Rattle.clock_fraction.specs.Fractions.{IsSame}
+use Rattle.host_tree.specs.declared.parent.Parent.{Parent}
+use Rattle.host_tree.specs.declared.parent.Parent.TheVariants.{Root, Child}
+use Rattle.host_tree.specs.Order.{HaveSamePairs}
+use Rattle.host_merge.specs.declared.placed.Placed.{Placed}
+use Rattle.host_merge.specs.Kept.{IsTreePair, KeepsOrder}
+use Rattle.host_merge.specs.Placed.{inverted_among}
+use Rattle.host_sync.specs.Synced.{AreSyncable, IsSynced, Synced}
+
+-- the merge has each host's events in their order, and no others
+abbrev pub SyncedKeepOrder : Type 0
+SyncedKeepOrder = (hosts : List HostEvents) (drift : ℕ) (s : Synced) → AreSyncable hosts → IsSynced hosts drift s → KeepsOrder hosts s.merged
+
+-- of a message between a host and its parent, the send stands before the receive, and it isn't inverted
+abbrev pub SyncedSendsFirst : Type 0
+SyncedSendsFirst = (hosts : List HostEvents) (drift : ℕ) (s : Synced) → AreSyncable hosts → IsSynced hosts drift s
+    → (k : ℕ) (m : Message) (p : Placed) → slice_get s.matched k ≡ Some m → slice_get s.placed k ≡ Some p → IsTreePair s.parents m.from m.to → (p.send < p.receive) × ¬ Contains (inverted_among s.placed) k
+
+-- both are roots, or both have one parent and lines of the same slopes to its clock
+abbrev pub IsSameParentAndSlopes : Parent → Parent → Type 0
+IsSameParentAndSlopes Root Root = Unit {0}
+IsSameParentAndSlopes Root (Child q n) = ⊥
+IsSameParentAndSlopes (Child p m) Root = ⊥
+IsSameParentAndSlopes (Child p m) (Child q n) = (p ≡ q) × IsSame m.steep.slope n.steep.slope × IsSame m.flat.slope n.flat.slope
+
+-- hosts and a drift have one answer, but for the points by which lines and contradictions are told
+pub record IsOneAnswer (hosts : List HostEvents) (s z : Synced) : Type 0 where
+  pub matched : s.matched ≡ z.matched
+  pub ambiguous : s.ambiguous ≡ z.ambiguous
+  pub pairs : HaveSamePairs (length hosts) s.fits z.fits
+  pub parents : (host : ℕ) (p q : Parent) → slice_get s.parents host ≡ Some p → slice_get z.parents host ≡ Some q → IsSameParentAndSlopes p q
+  pub count : length s.parents ≡ length z.parents
+  pub merged : s.merged ≡ z.merged
+  pub placed : s.placed ≡ z.placed
+
+abbrev pub HaveOneAnswer : Type 0
+HaveOneAnswer = (hosts : List HostEvents) (drift : ℕ) (s z : Synced) → AreSyncable hosts → IsSynced hosts drift s → IsSynced hosts drift z → IsOneAnswer hosts s z
