@@ -1,6 +1,12 @@
-pub mod Totals
+pub mod Decoded
+pub mod Elements
+pub mod KindRanges
 pub mod Kept
-pub mod Points
+pub mod OneAnswer
 pub mod OneFits
 pub mod OneMerge
-pub mod OneAnswer
+pub mod Points
+pub mod Ranges
+pub mod ReadAgain
+pub mod Syncable
+pub mod Totals

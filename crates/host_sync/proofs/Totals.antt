@@ -15,6 +15,7 @@ use Rattle.host_merge.specs.Kept.{KeepsOrder}
 use Rattle.host_merge.specs.Placed.{is_of}
 use Rattle.host_merge.proofs.Brought.{event_of}
 use Rattle.host_merge.proofs.Spots.{count_cons}
+use Rattle.host_sync.proofs.Elements.{all_in}
 use Rattle.host_sync.specs.Synced.{AreSyncable, total_events}
 
 -- no host has more events than all together
@@ -115,10 +116,6 @@ few_from least (m ∷ ms) room above r p =
     let a : least ≤ m.from * 2097152 + m.send = above.0 in
     let rest = few_from (m.from * 2097152 + m.send + 1) ms (omega (arith, r.0.0, r.0.1)) (all_later m ms r.0 r.1 p.0) r.1 p.1 in
     omega (arith, rest, a)
-
-all_in : {X : Type 0} (P : X → Type 0) (xs : List X) → ((k : ℕ) (x : X) → slice_get xs k ≡ Some x → P x) → AllByRecursion P xs
-all_in P [] h = tt
-all_in P (x ∷ xs) h = (h 0 x refl, all_in P xs (λ k y e. h (suc k) y e))
 
 all_above_zero : (ms : List Message) → AllByRecursion (λ m. 0 ≤ rank m) ms
 all_above_zero [] = tt
