@@ -1,7 +1,7 @@
 //! Reading the words of a command line.
 ghost use Rattle.std.specs.Prelude.{◌≡◌, ◌≢◌, ◌↔◌, ◌<◌, ◌^◌, ◌∷◌, [], ℕ, List, length, IsTrue, IfOk, IfSome, IfNone, Err, codes, get_or, map, string_bytes};
 ghost use Rattle.std.specs.Fmt.{decimal};
-ghost use Rattle.command_words.specs.Words.{IsCommand, IsEventsCommand, IsFileWord, IsFolderCommand, IsListCommand, IsOtherCommand, are_file_words};
+ghost use Rattle.command_words.specs.Words.{AreRanges, IsCommand, IsEventsCommand, IsFileWord, IsFolderCommand, IsListCommand, IsOtherCommand, are_file_words};
 ghost use Rattle.command_words.specs.declared.words.WordsError.TheVariants.{Usage};
 ghost use Rattle.command_words.specs.declared.command.Command.{Command};
 
@@ -9,6 +9,9 @@ use crate::command::{Command, Input, PlainCommand};
 use sqlite_items::Items;
 use std::alloc::{AllocError, Global};
 use trace_types::{OutOfMemory, TIME_END, Text, read_number_below};
+
+/// The drift where no word gives one, in parts per million.
+const DRIFT: u32 = 1_000;
 
 /// Why words are no command.
 #[derive(Clone, Copy, Debug, PartialEq, Eq)]
@@ -43,6 +46,7 @@ impl From<AllocError> for WordsError {
 pub fn parse_words(alloc: Global, words: &[String]) -> Result<Command, WordsError>
     ensures found { IfOk result (λ c. IsCommand (map string_bytes words.now) c) }
     ensures usage { result ≡ Err Usage → (c : Command) → ¬ (IsCommand (map string_bytes words.now) c) }
+    ensures ranges { IfOk result AreRanges }
 {
     match words_of_check(words) {
         Some(folders) => parse_check(alloc, folders),
@@ -73,13 +77,23 @@ fn parse_other(alloc: Global, words: &[String]) -> Result<Command, WordsError>
 // The command over all events of a folder.
 fn parse_events(alloc: Global, command: &[u8], folder: &[u8]) -> Result<Command, WordsError>
     ensures found { IfOk result (λ c. IsCommand (command.now ∷ folder.now ∷ []) c) }
-    ensures usage { result ≡ Err Usage → (dir : List ℕ) → ¬ (IsEventsCommand (command.now ∷ folder.now ∷ []) dir) }
+    ensures usage { result ≡ Err Usage → (folders : List (List ℕ)) (drift : ℕ) → ¬ (IsEventsCommand (command.now ∷ folder.now ∷ []) folders drift) }
 {
     if command != b"events".as_slice() || !is_file_word(folder) {
         return Err(WordsError::Usage);
     }
-    let folder = Text::from_bytes(alloc, folder)?;
-    Ok(Command::Plain(PlainCommand::Events { folder }))
+    let folders = one_folder(alloc, folder)?;
+    let drift = DRIFT;
+    Ok(Command::Plain(PlainCommand::Events { folders, drift }))
+}
+
+// A list of one folder.
+fn one_folder(alloc: Global, folder: &[u8]) -> Result<Items<Text>, OutOfMemory>
+    ensures { IfOk result (λ folders. folders ≡ folder.now ∷ []) }
+{
+    let mut folders = Items::new(alloc);
+    folders.push(Text::from_bytes(alloc, folder)?)?;
+    Ok(folders)
 }
 
 // A command over a folder.
@@ -113,7 +127,8 @@ fn parse_folder_state(alloc: Global, at: &[u8], folder: &[u8]) -> Result<Command
     let Some(at) = read_number_below(at, TIME_END) else {
         return Err(WordsError::Usage);
     };
-    let input = Input::Folder(Text::from_bytes(alloc, folder)?);
+    let dirs = one_folder(alloc, folder)?;
+    let input = Input::Folders { dirs, drift: DRIFT };
     Ok(Command::Plain(PlainCommand::State { input, at }))
 }
 
@@ -125,9 +140,14 @@ fn parse_folder_ask(alloc: Global, questions: &[u8], folder: &[u8]) -> Result<Co
     if !is_file_word(questions) {
         return Err(WordsError::Usage);
     }
-    let input = Input::Folder(Text::from_bytes(alloc, folder)?);
+    let dirs = one_folder(alloc, folder)?;
+    let input = Input::Folders { dirs, drift: DRIFT };
     let questions = Text::from_bytes(alloc, questions)?;
-    Ok(Command::Plain(PlainCommand::Ask { input, questions }))
+    Ok(Command::Plain(PlainCommand::Ask {
+        input,
+        questions,
+        once: false,
+    }))
 }
 
 // The words after the name of the command over folders, where that is the first.
@@ -211,7 +231,11 @@ fn parse_ask(alloc: Global, questions: &[u8], file: &[u8]) -> Result<Command, Wo
     }
     let input = Input::List(Text::from_bytes(alloc, file)?);
     let questions = Text::from_bytes(alloc, questions)?;
-    Ok(Command::Plain(PlainCommand::Ask { input, questions }))
+    Ok(Command::Plain(PlainCommand::Ask {
+        input,
+        questions,
+        once: false,
+    }))
 }
 
 // Whether a word can name a file or a folder.

@@ -4,13 +4,12 @@ use Rattle.std.specs.Prelude.{IfSome}
 use Rattle.ht_outside.specs.Files.{Files}
 use Rattle.type_scope.specs.Traces.{Trace}
 use Rattle.trace_metadata.specs.Files.{IsTrace}
-use Rattle.hosttrace.specs.Folders.{AreRead, FolderRefuses, FoldersRefuse, IsRead, metadata_of}
-use Rattle.hosttrace.specs.Hosts.{AreTraces, HostsRefuse, MetadataRefuses}
-use Rattle.hosttrace.specs.Inputs.{FailsBy}
+use Rattle.hosttrace.specs.Folders.{AreRead, IsRead, metadata_of}
+use Rattle.hosttrace.specs.Hosts.{AreTraces}
+use Rattle.hosttrace.specs.Read.{AreFolderFiles, IsFolderFiles}
+use Rattle.hosttrace.specs.Refusals.{FolderRefuses, FoldersRefuse, HostsRefuse, MetadataRefuses, TraceRefuses, TracesRefuse}
 use Rattle.hosttrace.specs.declared.status.Refusal.{Refusal}
-use Rattle.hosttrace.specs.declared.status.Status.{Status}
-use Rattle.hosttrace.specs.declared.status.Status.TheVariants.{Done, Usage, Refused, ReadFault, WriteFault, NoMemory}
-use Rattle.hosttrace.proofs.Parts.{risen_later}
+use Rattle.hosttrace.specs.declared.trace_files.FolderFiles.{FolderFiles}
 
 -- ---- hosts
 
@@ -33,7 +32,7 @@ no_host files at ts left none = subst (AreTraces files) (append-nil ts) (left.go
 pub bad_host : (files : List (List ℕ)) (at : ℕ) (ts : List Trace) (bytes : List ℕ) (r : Refusal) → HostsLeft files at ts → drop at files ≡ bytes ∷ drop (at + 1) files → MetadataRefuses at bytes r → HostsRefuse 0 files r
 bad_host files at ts bytes r left here bad = left.only r (subst (λ l. HostsRefuse at l r) (sym here) (inl bad))
 
--- ---- folders
+-- ---- the metadata of folders
 
 pub record FoldersLeft (files : Files) (dirs : List (List ℕ)) (at total : ℕ) (texts : List (List ℕ)) : Type 0 where
   pub reads : AreRead files total (drop at dirs) → AreRead files 0 dirs
@@ -69,19 +68,38 @@ pub all_texts : (o : Option Files) (dirs : List (List ℕ)) (at total : ℕ) (te
 all_texts None dirs at total texts left none = tt
 all_texts (Some files) dirs at total texts left none = sym (left.texts_are ∙ (ap (λ l. texts ++ map (metadata_of files) l) none ∙ append-nil texts))
 
--- ---- why a later step fails
-
--- a refusal of what is left is one of the whole, and a fault that rose later rose
-pub fails_by : (P Q : Files → Refusal → Type 0) (o q : Option Files) (a b c : ℕ) (status : Status) → q ≡ o → a ≤ b → IfSome o (λ files. (r : Refusal) → Q files r → P files r) → FailsBy Q q b c status → FailsBy P o a c status
-fails_by P Q o q a b c Done e le f h = h
-fails_by P Q o q a b c Usage e le f h = h
-fails_by P Q None q a b c (Refused r) e le f h = tt
-fails_by P Q (Some files) q a b c (Refused r) e le f h = f r (subst (λ o. IfSome o (λ fs. Q fs r)) e h)
-fails_by P Q o q a b c ReadFault e le f h = risen_later a b c le h
-fails_by P Q o q a b c WriteFault e le f h = h
-fails_by P Q o q a b c NoMemory e le f h = h
-
 pub only_folder : (o : Option Files) (dirs : List (List ℕ)) (at total : ℕ) (texts : List (List ℕ)) (dir : List ℕ) → IfSome o (λ files. FoldersLeft files dirs at total texts) → drop at dirs ≡ dir ∷ drop (at + 1) dirs
     → IfSome o (λ files. (r : Refusal) → FolderRefuses files at total dir r → FoldersRefuse files 0 0 dirs r)
 only_folder None dirs at total texts dir left here = tt
 only_folder (Some files) dirs at total texts dir left here = λ r h. left.only r (subst (λ l. FoldersRefuse files at total l r) (sym here) (inl h))
+
+-- ---- folders that are read whole
+
+pub record TracesLeft (files : Files) (dirs : List (List ℕ)) (at total : ℕ) (read : List FolderFiles) : Type 0 where
+  pub goes_on : (more : List FolderFiles) → AreFolderFiles files total (drop at dirs) more → AreFolderFiles files 0 dirs (read ++ more)
+  pub only : (r : Refusal) → TracesRefuse files at total (drop at dirs) r → TracesRefuse files 0 0 dirs r
+
+pub all_traces : (o : Option Files) (dirs : List (List ℕ)) → IfSome o (λ files. TracesLeft files dirs 0 0 [])
+all_traces None dirs = tt
+all_traces (Some files) dirs = record { goes_on = λ more h. h; only = λ r h. h }
+
+next_read : (files : Files) (dirs : List (List ℕ)) (at total after : ℕ) (read : List FolderFiles) (dir : List ℕ) (one : FolderFiles) → TracesLeft files dirs at total read → drop at dirs ≡ dir ∷ drop (at + 1) dirs → IsFolderFiles files total after dir one
+    → TracesLeft files dirs (at + 1) after (read ++ one ∷ [])
+next_read files dirs at total after read dir one left here is = record {
+  goes_on = λ more h. subst (AreFolderFiles files 0 dirs) (sym (append_assoc read (one ∷ []) more)) (left.goes_on (one ∷ more) (subst (λ l. AreFolderFiles files total l (one ∷ more)) (sym here) (after, is, h)));
+  only = λ r h. left.only r (subst (λ l. TracesRefuse files at total l r) (sym here) (inr (is.names, is.is_folder, subst (λ n. TracesRefuse files (at + 1) n (drop (at + 1) dirs) r) is.after_is h)));
+}
+
+pub next_trace : (o q : Option Files) (dirs : List (List ℕ)) (at total after : ℕ) (read : List FolderFiles) (dir : List ℕ) (one : FolderFiles) → q ≡ o → IfSome o (λ files. TracesLeft files dirs at total read) → drop at dirs ≡ dir ∷ drop (at + 1) dirs → IfSome q (λ files. IsFolderFiles files total after dir one)
+    → IfSome o (λ files. TracesLeft files dirs (at + 1) after (read ++ one ∷ []))
+next_trace None q dirs at total after read dir one e left here is = tt
+next_trace (Some files) q dirs at total after read dir one e left here is = next_read files dirs at total after read dir one left here (subst (λ o. IfSome o (λ files. IsFolderFiles files total after dir one)) e is)
+
+pub no_trace : (o : Option Files) (dirs : List (List ℕ)) (at total : ℕ) (read : List FolderFiles) → IfSome o (λ files. TracesLeft files dirs at total read) → drop at dirs ≡ [] → IfSome o (λ files. AreFolderFiles files 0 dirs read)
+no_trace None dirs at total read left none = tt
+no_trace (Some files) dirs at total read left none = subst (AreFolderFiles files 0 dirs) (append-nil read) (left.goes_on [] (subst (λ l. AreFolderFiles files total l []) (sym none) tt))
+
+pub only_trace : (o : Option Files) (dirs : List (List ℕ)) (at total : ℕ) (read : List FolderFiles) (dir : List ℕ) → IfSome o (λ files. TracesLeft files dirs at total read) → drop at dirs ≡ dir ∷ drop (at + 1) dirs
+    → IfSome o (λ files. (r : Refusal) → TraceRefuses files at total dir r → TracesRefuse files 0 0 dirs r)
+only_trace None dirs at total read dir left here = tt
+only_trace (Some files) dirs at total read dir left here = λ r h. left.only r (subst (λ l. TracesRefuse files at total l r) (sym here) (inl h))

@@ -6,7 +6,7 @@ use Rattle.ht_outside.specs.Files.{Files, bytes_of}
 use Rattle.type_scope.specs.Traces.{Trace}
 use Rattle.trace_metadata.proofs.OneTrace.{one_trace}
 use Rattle.event_list.proofs.OneList as list
-use Rattle.event_list.specs.Names.{names_at}
+use Rattle.event_list.specs.Names.{lines_of, names_at}
 use Rattle.event_list.specs.declared.trace.MergedTrace.{MergedTrace}
 use Rattle.kernel_provider.specs.Replay.{state_at}
 use Rattle.report_views.specs.AnswersText.{asked_text}
@@ -15,19 +15,43 @@ use Rattle.command_words.specs.declared.command.Input.{Input}
 use Rattle.command_words.specs.declared.command.Input.TheVariants as input
 use Rattle.command_words.specs.declared.command.PlainCommand.{PlainCommand}
 use Rattle.command_words.specs.declared.command.PlainCommand.TheVariants.{Ask, Check, Events, State}
-use Rattle.hosttrace.specs.Folders.{AreRead, HasManyNames, metadata_of}
+use Rattle.trace_types.specs.declared.event.Merged.{Merged}
+use Rattle.trace_types.specs.declared.host.HostEvents.{HostEvents}
+use Rattle.host_sync.specs.Laws.{IsOneAnswer}
+use Rattle.host_sync.specs.Synced.{Synced}
+use Rattle.hosttrace.specs.Clusters.{AreSyncedTraces, IsCluster}
 use Rattle.hosttrace.specs.Hosts.{AreTraces, host_lines}
-use Rattle.hosttrace.specs.Means.{IsAskOutput, IsCheckOutput, IsGood, IsGoodInput, IsInput, IsOutput, IsStateOutput, Refuses}
+use Rattle.hosttrace.specs.Means.{IsAskOutput, IsCheckOutput, IsEventsOutput, IsGood, IsGoodInput, IsInput, IsOutput, IsStateOutput, Refuses}
 use Rattle.hosttrace.specs.declared.status.Refusal.{Refusal}
 use Rattle.hosttrace.proofs.Complete.{good}
 use Rattle.hosttrace.proofs.OneAsking.{one_asking}
-use Rattle.hosttrace.proofs.OneFolder.{few_and_many, good_trace, one_events_text, one_listing, one_merge}
+use Rattle.hosttrace.proofs.Clustered.{can_sync}
+use Rattle.hosttrace.proofs.OneCluster.{good_traces, one_found, one_listing}
+use Rattle.hosttrace.proofs.OneSync.{one_synced, same_names}
+
+-- ---- one answer of folders
+
+pub one_answer : (files : Files) (dirs : List (List ℕ)) (drift : ℕ) (found others : List HostEvents) (s z : Synced) → AreSyncedTraces files dirs drift found s → AreSyncedTraces files dirs drift others z → IsOneAnswer found s z
+one_answer files dirs drift found others s z h g =
+    one_synced found others drift s z (can_sync files dirs drift found s h) (one_found files dirs drift drift found others s z h g) h.synced g.synced
+
+one_merge : (files : Files) (dirs : List (List ℕ)) (drift : ℕ) (t u : MergedTrace) → IsCluster files dirs drift t → IsCluster files dirs drift u → (t.events.items ≡ u.events.items) × (t.names.items ≡ u.names.items)
+one_merge files dirs drift t u h g =
+    let same = one_answer files dirs drift h.found g.found h.synced g.synced h.traces g.traces in
+    let names = same_names h.found g.found (one_found files dirs drift drift h.found g.found h.synced g.synced h.traces g.traces) in
+    (h.events ∙ (same.merged ∙ sym g.events), h.names ∙ (names ∙ sym g.names))
+
+one_events_text : (files : Files) (dirs : List (List ℕ)) (drift : ℕ) (a b : List ℕ) → IsEventsOutput files dirs drift a → IsEventsOutput files dirs drift b → a ≡ b
+one_events_text files dirs drift a b h g =
+    let same = one_answer files dirs drift h.found g.found h.synced g.synced h.traces g.traces in
+    let names = same_names h.found g.found (one_found files dirs drift drift h.found g.found h.synced g.synced h.traces g.traces) in
+    h.is_text ∙ (ap₂ (λ ns es. lines_of (names_at ns) es) names same.merged ∙ sym g.is_text)
 
 -- ---- one trace of an input
 
 one_input : (files : Files) (source : Input) (t u : MergedTrace) → IsInput source files t → IsInput source files u → (t.events.items ≡ u.events.items) × (t.names.items ≡ u.names.items)
 one_input files (input.List file) t u h g = list.one_trace (bytes_of files [] file) h.parsed_lines g.parsed_lines t u h.is_list.is_list h.is_trace g.is_list.is_list g.is_trace
-one_input files (input.Folder dir) t u h g = one_merge files dir t u h g
+one_input files (input.Folders dirs drift) t u h g = one_merge files dirs drift t u h g
 
 pub one_state_text : (files : Files) (source : Input) (at : ℕ) (a b : List ℕ) → IsStateOutput files source at a → IsStateOutput files source at b → a ≡ b
 one_state_text files source at a b h g =
@@ -61,25 +85,21 @@ one_check_text files folders a b h g = h.is_text ∙ (ap (host_lines 0) (same_tr
 
 pub one_text : (command : PlainCommand) (files : Files) (a b : List ℕ) → IsOutput command files a → IsOutput command files b → a ≡ b
 one_text (Check folders) files a b h g = one_check_text files folders a b h g
-one_text (Events folder) files a b h g = one_events_text files folder a b h g
+one_text (Events folders drift) files a b h g = one_events_text files folders drift a b h g
 one_text (State source at) files a b h g = one_state_text files source at a b h g
-one_text (Ask source questions) files a b h g = one_answers_text files source questions a b h g
+one_text (Ask source questions once) files a b h g = one_answers_text files source questions a b h g
 
 -- ---- files that have a text are good
 
-few_names : (files : Files) (before : ℕ) (folders : List (List ℕ)) → AreRead files before folders → AllByRecursion (λ dir. ¬ (HasManyNames files dir)) folders
-few_names files before [] are = tt
-few_names files before (dir ∷ dirs) are = ((λ many. few_and_many files dir are.0.few many), few_names files (before + length (metadata_of files dir)) dirs are.1)
-
 good_input : (files : Files) (source : Input) (t : MergedTrace) → IsInput source files t → IsGoodInput source files
 good_input files (input.List file) t h = (h.parsed_lines, h.is_list)
-good_input files (input.Folder dir) t h = good_trace files dir h.0 h.1
+good_input files (input.Folders dirs drift) t h = good_traces files dirs drift h.found h.synced h.traces
 
 pub good_files : (command : PlainCommand) (files : Files) (text : List ℕ) → IsOutput command files text → IsGood command files
-good_files (Check folders) files text h = record { few = h.few; few_names = few_names files 0 folders h.are_read; are_read = h.are_read; traces = h.traces; are_traces = h.are_traces }
-good_files (Events folder) files text h = good_trace files folder h.trace h.is_trace
+good_files (Check folders) files text h = record { few = h.few; are_read = h.are_read; traces = h.traces; are_traces = h.are_traces }
+good_files (Events folders drift) files text h = good_traces files folders drift h.found h.synced h.traces
 good_files (State source at) files text h = good_input files source h.trace h.is_input
-good_files (Ask source questions) files text h = (good_input files source h.trace h.is_input, (h.asked, h.are_asked))
+good_files (Ask source questions once) files text h = (good_input files source h.trace h.is_input, (h.asked, h.are_asked))
 
 pub never_refused : (command : PlainCommand) (files : Files) (text : List ℕ) (refusal : Refusal) → IsOutput command files text → Refuses command files refusal → ⊥
 never_refused command files text refusal h refused = good command files refusal refused (good_files command files text h)

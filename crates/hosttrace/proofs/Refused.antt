@@ -13,7 +13,9 @@ use Rattle.event_list.specs.Lines.{IsCrowded, IsEventList, IsFirstBad, IsParsedL
 use Rattle.event_list.specs.declared.list.ListError.{ListError}
 use Rattle.event_list.specs.declared.list.ListError.TheVariants as list
 use Rattle.history_core.specs.Agreement.{IsMerge}
-use Rattle.hosttrace.specs.Inputs.{LIST_LIMIT, FailsBy, ListRefuses}
+use Rattle.hosttrace.specs.Inputs.{LIST_LIMIT}
+use Rattle.hosttrace.specs.Refusals.{ListRefuses}
+use Rattle.hosttrace.specs.Seen.{FailsBy, StoreSeen}
 use Rattle.hosttrace.specs.Statuses.{list_status}
 use Rattle.hosttrace.specs.declared.status.ListFile.TheVariants.{Events}
 use Rattle.hosttrace.specs.declared.status.Refusal.TheVariants.{BadList, TooManyEvents}
@@ -34,12 +36,12 @@ pub at_err : {T E : Type 0} (r : Result T E) (P Q : E → Type 0) → IsErrAnd r
 at_err r P Q h f = let p = err_from_is_err_and r h in subst (λ x. IfErr x Q) (sym p.1) (f p.0 p.2)
 
 -- why a list has no events: its first bad line, or lack of memory
-pub list_fails : (files : Option Files) (bytes file : List ℕ) (faults faults_after : ℕ) (error : ListError) (status : Status) → status ≡ list_status error → IfSome files (λ f. bytes ≡ bytes_of f [] file) → length bytes ≤ LIST_LIMIT
+pub list_fails : (seen : StoreSeen) (bytes file : List ℕ) (error : ListError) (status : Status) → status ≡ list_status error → IfSome seen.files (λ f. bytes ≡ bytes_of f [] file) → length bytes ≤ LIST_LIMIT
     → ((line : ℕ) → error ≡ list.BadLine line → (parsed_lines : List ParsedLine) → ¬ (IsEventList bytes parsed_lines)) → ((line : ℕ) → error ≡ list.BadLine line → IsFirstBad bytes line) → (error ≡ list.TooManyEvents → IsCrowded bytes) → (error ≡ list.TooManyEvents → (parsed_lines : List ParsedLine) → IsEventList bytes parsed_lines → MAX_EVENTS < length parsed_lines)
-    → FailsBy (λ fs refusal. ListRefuses (bytes_of fs [] file) refusal) files faults faults_after status
-list_fails files bytes file faults faults_after (list.BadLine line) status e is small bad there many all = subst (FailsBy (λ fs refusal. ListRefuses (bytes_of fs [] file) refusal) files faults faults_after) (sym e) (no_list files bytes file line is small (bad line refl) (there line refl))
-list_fails files bytes file faults faults_after list.TooManyEvents status e is small bad there many all = subst (FailsBy (λ fs refusal. ListRefuses (bytes_of fs [] file) refusal) files faults faults_after) (sym e) (crowded files bytes file is small (many refl) (all refl))
-list_fails files bytes file faults faults_after list.OutOfMemory status e is small bad there many all = subst (FailsBy (λ fs refusal. ListRefuses (bytes_of fs [] file) refusal) files faults faults_after) (sym e) tt
+    → FailsBy (λ fs refusal. ListRefuses (bytes_of fs [] file) refusal) seen status
+list_fails seen bytes file (list.BadLine line) status e is small bad there many all = subst (FailsBy (λ fs refusal. ListRefuses (bytes_of fs [] file) refusal) seen) (sym e) (no_list seen.files bytes file line is small (bad line refl) (there line refl))
+list_fails seen bytes file list.TooManyEvents status e is small bad there many all = subst (FailsBy (λ fs refusal. ListRefuses (bytes_of fs [] file) refusal) seen) (sym e) (crowded seen.files bytes file is small (many refl) (all refl))
+list_fails seen bytes file list.OutOfMemory status e is small bad there many all = subst (FailsBy (λ fs refusal. ListRefuses (bytes_of fs [] file) refusal) seen) (sym e) tt
 
 -- the events of a list are merged
 pub is_merge : (bytes : List ℕ) (parsed_lines : List ParsedLine) (trace : MergedTrace) → IsEventList bytes parsed_lines → IsTrace parsed_lines trace → IsMerge trace.events.items

@@ -1,10 +1,7 @@
--- The folders of traces, each of one host, of which only the files of metadata are read, and what refuses them (this project's own limits).
-use Rattle.std.specs.Prelude.{◌≡◌, ◌⊎◌, ℕ, ◌+◌, ◌<◌, ◌≤◌, ◌==◌, Bool, true, not, List, [], ◌∷◌, length, count_by, codes, IsSome, None}
+-- The folders of traces, each of one host, and the reading of their metadata (this project's own limits).
+use Rattle.std.specs.Prelude.{ℕ, ◌+◌, ◌<◌, ◌≤◌, ◌==◌, Bool, true, not, List, [], ◌∷◌, length, count_by, codes, IsSome}
 pub use Rattle.trace_types.specs.declared.limits.TheConstants.{MAX_HOSTS}
 use Rattle.ht_outside.specs.Files.{Files, ListsNames, bytes_of}
-use Rattle.hosttrace.specs.declared.status.Limit.TheVariants as limit
-use Rattle.hosttrace.specs.declared.status.Refusal.{Refusal}
-use Rattle.hosttrace.specs.declared.status.Refusal.TheVariants.{NoMetadata, TooLarge}
 
 -- how many names may be in a folder, how many bytes the metadata of one may have, and how many all of them together
 
@@ -37,37 +34,14 @@ HasFewNames files dir = (names : List (List ℕ)) × ListsNames files dir names 
 abbrev pub HasMetadata : Files → List ℕ → Type 0
 HasMetadata files dir = IsSome (files dir (codes "metadata"))
 
--- a folder is read, when so many bytes of others were read before
+-- the metadata of a folder is read, when so many bytes of others were read before
 pub record IsRead (files : Files) (before : ℕ) (dir : List ℕ) : Type 0 where
   pub few : HasFewNames files dir
   pub there : HasMetadata files dir
   pub small : length (metadata_of files dir) ≤ METADATA_LIMIT
   pub all : before + length (metadata_of files dir) ≤ FILES_LIMIT
 
--- why the names in the folder of this host are refused
-abbrev pub NamesRefuse : Files → ℕ → List ℕ → Refusal → Type 0
-NamesRefuse files host dir (TooLarge limit.Names) = HasManyNames files dir
-NamesRefuse files host dir (NoMetadata h) = (h ≡ host) × HasFewNames files dir × (files dir (codes "metadata") ≡ None)
-NamesRefuse files host dir _ = ⊥
-
--- why so many bytes are refused, when so many of others were read before
-abbrev pub SizeRefuses : ℕ → ℕ → Refusal → Type 0
-SizeRefuses before size (TooLarge limit.Metadata) = METADATA_LIMIT < size
-SizeRefuses before size (TooLarge limit.Files) = (size ≤ METADATA_LIMIT) × (FILES_LIMIT < before + size)
-SizeRefuses before size _ = ⊥
-
--- why the folder of this host is refused: its names, or after good names the size of its metadata
-abbrev pub FolderRefuses : Files → ℕ → ℕ → List ℕ → Refusal → Type 0
-FolderRefuses files host before dir refusal =
-    NamesRefuse files host dir refusal ⊎ ((HasFewNames files dir × HasMetadata files dir) × SizeRefuses before (length (metadata_of files dir)) refusal)
-
--- folders are read one after the other
+-- the metadata of folders is read, one after the other
 abbrev pub AreRead : Files → ℕ → List (List ℕ) → Type 0
 AreRead files before [] = Unit {0}
 AreRead files before (dir ∷ dirs) = IsRead files before dir × AreRead files (before + length (metadata_of files dir)) dirs
-
--- why folders are refused, of which the first is that of this host: the first that is refused
-abbrev pub FoldersRefuse : Files → ℕ → ℕ → List (List ℕ) → Refusal → Type 0
-FoldersRefuse files host before [] refusal = ⊥
-FoldersRefuse files host before (dir ∷ dirs) refusal =
-    FolderRefuses files host before dir refusal ⊎ (IsRead files before dir × FoldersRefuse files (host + 1) (before + length (metadata_of files dir)) dirs refusal)

@@ -1,11 +1,14 @@
 pub mod Statuses
+pub mod Seen
 pub mod Reading
 pub mod Questions
 pub mod Inputs
 pub mod Folders
 pub mod Hosts
 pub mod Streams
-pub mod Merges
+pub mod Read
+pub mod Clusters
+pub mod Refusals
 pub mod Means
 pub mod Outcome
 pub mod Writing

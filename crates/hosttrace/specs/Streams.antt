@@ -1,5 +1,5 @@
--- The stream files of a trace's folder, and what refuses them (this project's own limits).
-use Rattle.std.specs.Prelude.{◌≡◌, ◌⊎◌, ℕ, ◌+◌, ◌<◌, ◌≤◌, ◌&&◌, Bool, false, not, List, [], ◌∷◌, length, filter, nat_eq, codes, IsPermutation}
+-- The stream files of traces' folders, and the hosts that folders have (this project's own limits).
+use Rattle.std.specs.Prelude.{◌≡◌, ℕ, ◌+◌, ◌≤◌, ◌&&◌, Bool, false, not, List, [], ◌∷◌, length, filter, nat_eq, codes, IsPermutation}
 use Rattle.std.specs.List.{AllPairs}
 use Rattle.std.specs.Cmp.Lexicographic.{pointwise, slice_cmp}
 use Rattle.std.specs.Ordering.{is_lt, nat_cmp}
@@ -9,12 +9,8 @@ use Rattle.trace_metadata.specs.Files.{IsTrace}
 use Rattle.ht_outside.specs.Files.{Files, ListsNames, bytes_of}
 use Rattle.decode_pool.specs.declared.files.FileBytes.{FileBytes}
 use Rattle.decode_pool.specs.declared.hosts.HostFiles.{HostFiles}
-use Rattle.hosttrace.specs.Folders.{FILES_LIMIT, FolderRefuses, IsRead, is_shown, metadata_of}
-use Rattle.hosttrace.specs.Hosts.{MetadataRefuses}
+use Rattle.hosttrace.specs.Folders.{FILES_LIMIT, IsRead, is_shown, metadata_of}
 use Rattle.hosttrace.specs.Inputs.{LIST_LIMIT}
-use Rattle.hosttrace.specs.declared.status.Limit.TheVariants as limit
-use Rattle.hosttrace.specs.declared.status.Refusal.{Refusal}
-use Rattle.hosttrace.specs.declared.status.Refusal.TheVariants.{TooLarge}
 
 -- every file is a stream file whose name doesn't begin with a dot and isn't that of the metadata
 abbrev pub is_stream_name : List ℕ → Bool
@@ -45,11 +41,6 @@ AreFiles files dir _ _ = ⊥
 abbrev pub StreamFits : ℕ → ℕ → Type 0
 StreamFits before size = (size ≤ LIST_LIMIT) × (before + size ≤ FILES_LIMIT)
 
-abbrev pub StreamRefuses : ℕ → ℕ → Refusal → Type 0
-StreamRefuses before size (TooLarge limit.File) = LIST_LIMIT < size
-StreamRefuses before size (TooLarge limit.Files) = (size ≤ LIST_LIMIT) × (FILES_LIMIT < before + size)
-StreamRefuses before size _ = ⊥
-
 abbrev pub size_of : Files → List ℕ → List ℕ → ℕ
 size_of files dir name = length (bytes_of files dir name)
 
@@ -58,29 +49,44 @@ abbrev pub AreStreamsRead : Files → List ℕ → ℕ → List (List ℕ) → T
 AreStreamsRead files dir before [] = Unit {0}
 AreStreamsRead files dir before (name ∷ names) = StreamFits before (size_of files dir name) × AreStreamsRead files dir (before + size_of files dir name) names
 
--- why files are refused: the first that is refused
-abbrev pub StreamsRefuse : Files → List ℕ → ℕ → List (List ℕ) → Refusal → Type 0
-StreamsRefuse files dir before [] refusal = ⊥
-StreamsRefuse files dir before (name ∷ names) refusal = StreamRefuses before (size_of files dir name) refusal ⊎ (StreamFits before (size_of files dir name) × StreamsRefuse files dir (before + size_of files dir name) names refusal)
-
 abbrev pub metadata_size : Files → List ℕ → ℕ
 metadata_size files dir = length (metadata_of files dir)
 
--- a host of a folder: what its metadata declares, and all of its stream files
-pub record IsHostOf (files : Files) (dir : List ℕ) (host : HostFiles) : Type 0 where
-  pub number : host.host ≡ 0
-  pub is_read : IsRead files 0 dir
-  pub names : List (List ℕ)
+-- how many bytes the files of these names have together
+abbrev pub streams_size : Files → List ℕ → List (List ℕ) → ℕ
+streams_size files dir [] = 0
+streams_size files dir (name ∷ names) = size_of files dir name + streams_size files dir names
+
+-- the bytes of a folder's metadata and of its stream files
+abbrev pub folder_size : Files → List ℕ → List (List ℕ) → ℕ
+folder_size files dir names = metadata_size files dir + streams_size files dir names
+
+-- a folder is read, its metadata and then its stream files, which have these names, when so many bytes of others were read before
+pub record IsFolder (files : Files) (before : ℕ) (dir : List ℕ) (names : List (List ℕ)) : Type 0 where
+  pub is_read : IsRead files before dir
   pub are_names : AreStreamNames files dir names
-  pub are_read : AreStreamsRead files dir (metadata_size files dir) names
+  pub are_read : AreStreamsRead files dir (before + metadata_size files dir) names
+
+-- folders are read one after the other
+abbrev pub AreFolders : Files → ℕ → List (List ℕ) → Type 0
+AreFolders files before [] = Unit {0}
+AreFolders files before (dir ∷ dirs) = (names : List (List ℕ)) × IsFolder files before dir names × AreFolders files (before + folder_size files dir names) dirs
+
+-- the host of this number, of a folder: what its metadata declares, and all of its stream files
+pub record IsHostOf (files : Files) (place before : ℕ) (dir : List ℕ) (host : HostFiles) : Type 0 where
+  pub number : host.host ≡ place
+  pub names : List (List ℕ)
+  pub is_folder : IsFolder files before dir names
   pub are_files : AreFiles files dir names host.files.items
   pub declares : IsTrace (metadata_of files dir) (trace host.meta)
   pub sound : IsSoundMeta host.meta
 
--- why the stream files of these names are refused, or after good ones the metadata
-abbrev pub ContentRefuses : Files → List ℕ → List (List ℕ) → Refusal → Type 0
-ContentRefuses files dir names refusal = StreamsRefuse files dir (metadata_size files dir) names refusal ⊎ (AreStreamsRead files dir (metadata_size files dir) names × MetadataRefuses 0 (metadata_of files dir) refusal)
+-- for each folder its host, of which the first has this number
+abbrev pub AreHostsFrom : Files → ℕ → ℕ → List (List ℕ) → List HostFiles → Type 0
+AreHostsFrom files place before [] [] = Unit {0}
+AreHostsFrom files place before (dir ∷ dirs) (host ∷ hosts) = (is : IsHostOf files place before dir host) × AreHostsFrom files (place + 1) (before + folder_size files dir is.names) dirs hosts
+AreHostsFrom files place before _ _ = ⊥
 
--- why a folder has no host: its names or the size of its metadata, and after these its files
-abbrev pub HostRefuses : Files → List ℕ → Refusal → Type 0
-HostRefuses files dir refusal = FolderRefuses files 0 0 dir refusal ⊎ (IsRead files 0 dir × ((names : List (List ℕ)) × AreStreamNames files dir names × ContentRefuses files dir names refusal))
+-- the hosts of folders, numbered by their folders' places
+abbrev pub AreHostsOf : Files → List (List ℕ) → List HostFiles → Type 0
+AreHostsOf files dirs hosts = AreHostsFrom files 0 0 dirs hosts

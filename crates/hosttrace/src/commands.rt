@@ -1,17 +1,18 @@
 //! The top calls, and what each command does.
 ghost use Rattle.std.specs.Prelude.{◌≡◌, [], IfOk, IfErr, IfSome, map, string_bytes};
-ghost use Rattle.hosttrace.specs.Inputs.{FailsBy};
-ghost use Rattle.hosttrace.specs.Means.{IsAskOutput, IsCheckOutput, IsEventsOutput, IsOutput, IsStateOutput, Refuses};
+ghost use Rattle.command_words.specs.Words.{HasRanges, InputHasRange, IsDrift};
+ghost use Rattle.hosttrace.specs.Means.{AskRefuses, IsAskOutput, IsCheckOutput, IsEventsOutput, IsOutput, IsStateOutput, Refuses};
 ghost use Rattle.hosttrace.specs.Outcome.{IsOutcome, IsPlainOutcome, Leaves, PlainLeaves, PlainMeans};
+ghost use Rattle.hosttrace.specs.Refusals.{CheckRefuses, ClusterRefuses, InputRefuses};
+ghost use Rattle.hosttrace.specs.Seen.{FailsBy, OnlyReads, not_seen, sink_seen, store_seen};
 ghost use Rattle.hosttrace.specs.Statuses.{IsTold};
-ghost use Rattle.command_words.specs.declared.command.PlainCommand.TheVariants.{Ask, Check, Events, State};
 
+use crate::clusters::read_merge;
 use crate::folders::{is_crowd, read_folders};
 use crate::hosts::{check_text, read_hosts};
 use crate::inputs::{read_asked, read_input};
 use crate::status::{Limit, Refusal, Status};
 use crate::status_line::write_status;
-use crate::traces::read_trace;
 use crate::writing::write_text;
 use command_words::{Command, Input, PlainCommand, WordsError, parse_words};
 use ht_outside::{Gate, Sink, SinkError, Store};
@@ -31,20 +32,10 @@ pub fn run<R: Threads + Sync, S: Store, K: Sink, E: Sink, G: Gate + Sync>(
     err: &mut E,
     _gate: &G,
 ) -> Status
-    ensures headline { IsOutcome (map string_bytes words.now) (record {
-      files = S.holds store.old;
-      read_faults = S.faults store.old;
-      read_faults_after = S.faults store.new;
-      out = K.contents out.old;
-      out_after = K.contents out.new;
-      out_faults = K.faults out.old;
-      out_faults_after = K.faults out.new;
-      err_faults = E.faults err.old;
-      err_faults_after = E.faults err.new;
-    }) result }
-    ensures leaves { Leaves (map string_bytes words.now) (S.holds store.old) (K.contents out.old) (K.contents out.new) result }
+    ensures headline { IsOutcome (map string_bytes words.now) (record { store = store_seen S.holds S.faults store.old store.new; out = sink_seen K.contents K.faults out.old out.new; err = sink_seen E.contents E.faults err.old err.new }) result }
+    ensures leaves { Leaves (map string_bytes words.now) (record { store = store_seen S.holds S.faults store.old store.new; out = sink_seen K.contents K.faults out.old out.new; err = sink_seen E.contents E.faults err.old err.new }) result }
     ensures told { IsTold result (E.contents err.old) (E.contents err.new) (E.faults err.old) (E.faults err.new) }
-    ensures keeps { S.holds store.new ≡ S.holds store.old }
+    ensures reads { OnlyReads (store_seen S.holds S.faults store.old store.new) }
 {
     match parse_words(alloc, words) {
         Ok(Command::Plain(command)) => run_plain(rt, alloc, &command, store, out, err),
@@ -62,20 +53,11 @@ pub fn run_plain<R: Threads + Sync, S: Store, K: Sink, E: Sink>(
     out: &mut K,
     err: &mut E,
 ) -> Status
-    ensures headline { IsPlainOutcome command.now (record {
-      files = S.holds store.old;
-      read_faults = S.faults store.old;
-      read_faults_after = S.faults store.new;
-      out = K.contents out.old;
-      out_after = K.contents out.new;
-      out_faults = K.faults out.old;
-      out_faults_after = K.faults out.new;
-      err_faults = E.faults err.old;
-      err_faults_after = E.faults err.new;
-    }) result }
-    ensures leaves { PlainLeaves command.now (S.holds store.old) (K.contents out.old) (K.contents out.new) result }
+    requires { HasRanges command.now }
+    ensures headline { IsPlainOutcome command.now (record { store = store_seen S.holds S.faults store.old store.new; out = sink_seen K.contents K.faults out.old out.new; err = sink_seen E.contents E.faults err.old err.new }) result }
+    ensures leaves { PlainLeaves command.now (record { store = store_seen S.holds S.faults store.old store.new; out = sink_seen K.contents K.faults out.old out.new; err = sink_seen E.contents E.faults err.old err.new }) result }
     ensures told { IsTold result (E.contents err.old) (E.contents err.new) (E.faults err.old) (E.faults err.new) }
-    ensures keeps { S.holds store.new ≡ S.holds store.old }
+    ensures reads { OnlyReads (store_seen S.holds S.faults store.old store.new) }
 {
     let status = perform(rt, alloc, command, store, out);
     write_status(alloc, status, err)
@@ -89,19 +71,10 @@ fn perform<S: Store, K: Sink>(
     store: &mut S,
     out: &mut K,
 ) -> Status
-    ensures means { PlainMeans command.now (record {
-      files = S.holds store.old;
-      read_faults = S.faults store.old;
-      read_faults_after = S.faults store.new;
-      out = K.contents out.old;
-      out_after = K.contents out.new;
-      out_faults = K.faults out.old;
-      out_faults_after = K.faults out.new;
-      err_faults = 0;
-      err_faults_after = 0;
-    }) result }
-    ensures leaves { PlainLeaves command.now (S.holds store.old) (K.contents out.old) (K.contents out.new) result }
-    ensures keeps { S.holds store.new ≡ S.holds store.old }
+    requires { HasRanges command.now }
+    ensures means { PlainMeans command.now (record { store = store_seen S.holds S.faults store.old store.new; out = sink_seen K.contents K.faults out.old out.new; err = not_seen }) result }
+    ensures leaves { PlainLeaves command.now (record { store = store_seen S.holds S.faults store.old store.new; out = sink_seen K.contents K.faults out.old out.new; err = not_seen }) result }
+    ensures reads { OnlyReads (store_seen S.holds S.faults store.old store.new) }
 {
     let text = match text_of(threads, alloc, command, store) {
         Ok(text) => text,
@@ -121,17 +94,22 @@ fn text_of<S: Store>(
     command: &PlainCommand,
     store: &mut S,
 ) -> Result<Vec<u8>, Status>
+    requires { HasRanges command.now }
     ensures text { IfOk result (λ text. IfSome (S.holds store.old) (λ files. IsOutput command.now files text.items)) }
-    ensures fails { IfErr result (λ status. FailsBy (Refuses command.now) (S.holds store.old) (S.faults store.old) (S.faults store.new) status) }
-    ensures keeps { S.holds store.new ≡ S.holds store.old }
+    ensures fails { IfErr result (λ status. FailsBy (Refuses command.now) (store_seen S.holds S.faults store.old store.new) status) }
+    ensures reads { OnlyReads (store_seen S.holds S.faults store.old store.new) }
 {
     match command {
         PlainCommand::Check { folders } => text_of_check(alloc, folders.as_slice(), store),
-        PlainCommand::Events { folder } => text_of_events(threads, alloc, folder, store),
-        PlainCommand::State { input, at } => text_of_state(threads, alloc, input, *at, store),
-        PlainCommand::Ask { input, questions } => {
-            text_of_ask(threads, alloc, input, questions, store)
+        PlainCommand::Events { folders, drift } => {
+            text_of_events(threads, alloc, folders.as_slice(), *drift, store)
         }
+        PlainCommand::State { input, at } => text_of_state(threads, alloc, input, *at, store),
+        PlainCommand::Ask {
+            input,
+            questions,
+            once: _,
+        } => { text_of_ask(threads, alloc, input, questions, store) }
     }
 }
 
@@ -142,8 +120,8 @@ fn text_of_check<S: Store>(
     store: &mut S,
 ) -> Result<Vec<u8>, Status>
     ensures text { IfOk result (λ text. IfSome (S.holds store.old) (λ files. IsCheckOutput files folders.now text.items)) }
-    ensures fails { IfErr result (λ status. FailsBy (Refuses (Check folders.now)) (S.holds store.old) (S.faults store.old) (S.faults store.new) status) }
-    ensures keeps { S.holds store.new ≡ S.holds store.old }
+    ensures fails { IfErr result (λ status. FailsBy (λ files refusal. CheckRefuses files folders.now refusal) (store_seen S.holds S.faults store.old store.new) status) }
+    ensures reads { OnlyReads (store_seen S.holds S.faults store.old store.new) }
 {
     if is_crowd(folders) {
         let what = Limit::Hosts;
@@ -157,18 +135,20 @@ fn text_of_check<S: Store>(
     }
 }
 
-// All events of the trace of a folder.
+// All events of the traces of folders.
 fn text_of_events<S: Store>(
     threads: &(impl Threads + Sync),
     alloc: Global,
-    folder: &Text,
+    folders: &[Text],
+    drift: u32,
     store: &mut S,
 ) -> Result<Vec<u8>, Status>
-    ensures text { IfOk result (λ text. IfSome (S.holds store.old) (λ files. IsEventsOutput files folder.now text.items)) }
-    ensures fails { IfErr result (λ status. FailsBy (Refuses (Events folder.now)) (S.holds store.old) (S.faults store.old) (S.faults store.new) status) }
-    ensures keeps { S.holds store.new ≡ S.holds store.old }
+    requires { IsDrift drift }
+    ensures text { IfOk result (λ text. IfSome (S.holds store.old) (λ files. IsEventsOutput files folders.now drift text.items)) }
+    ensures fails { IfErr result (λ status. FailsBy (λ files refusal. ClusterRefuses files folders.now refusal) (store_seen S.holds S.faults store.old store.new) status) }
+    ensures reads { OnlyReads (store_seen S.holds S.faults store.old store.new) }
 {
-    let trace = read_trace(threads, alloc, folder, store)?;
+    let trace = read_merge(threads, alloc, folders, drift, store)?;
     match events_text(alloc, &trace) {
         Ok(text) => Ok(text),
         Err(OutOfMemory) => Err(Status::NoMemory),
@@ -183,9 +163,10 @@ fn text_of_state<S: Store>(
     at: u64,
     store: &mut S,
 ) -> Result<Vec<u8>, Status>
+    requires { InputHasRange input.now }
     ensures text { IfOk result (λ text. IfSome (S.holds store.old) (λ files. IsStateOutput files input.now at text.items)) }
-    ensures fails { IfErr result (λ status. FailsBy (Refuses (State input.now at)) (S.holds store.old) (S.faults store.old) (S.faults store.new) status) }
-    ensures keeps { S.holds store.new ≡ S.holds store.old }
+    ensures fails { IfErr result (λ status. FailsBy (InputRefuses input.now) (store_seen S.holds S.faults store.old store.new) status) }
+    ensures reads { OnlyReads (store_seen S.holds S.faults store.old store.new) }
 {
     let trace = read_input(threads, alloc, input, store)?;
     match state_text(alloc, &trace, at) {
@@ -202,9 +183,10 @@ fn text_of_ask<S: Store>(
     questions: &Text,
     store: &mut S,
 ) -> Result<Vec<u8>, Status>
+    requires { InputHasRange input.now }
     ensures text { IfOk result (λ text. IfSome (S.holds store.old) (λ files. IsAskOutput files input.now questions.now text.items)) }
-    ensures fails { IfErr result (λ status. FailsBy (Refuses (Ask input.now questions.now)) (S.holds store.old) (S.faults store.old) (S.faults store.new) status) }
-    ensures keeps { S.holds store.new ≡ S.holds store.old }
+    ensures fails { IfErr result (λ status. FailsBy (λ files refusal. AskRefuses files input.now questions.now refusal) (store_seen S.holds S.faults store.old store.new) status) }
+    ensures reads { OnlyReads (store_seen S.holds S.faults store.old store.new) }
 {
     let trace = read_input(threads, alloc, input, store)?;
     let questions = read_asked(alloc, questions, store)?;

@@ -1,8 +1,9 @@
 //! Reading the metadata of the folders that a command names.
 ghost use Rattle.std.specs.Prelude.{◌≡◌, ◌+◌, ◌≤◌, ◌<◌, ◌^◌, ◌↔◌, length, map, count_by, codes, Contains, IsTrue, IfOk, IfErr, IfSome, OnOk};
 ghost use Rattle.ht_outside.specs.Files.{ListsNames};
-ghost use Rattle.hosttrace.specs.Folders.{FILES_LIMIT, MAX_HOSTS, METADATA_LIMIT, AreRead, FolderRefuses, FoldersRefuse, HasFewNames, HasMetadata, IsRead, NamesRefuse, SizeRefuses, is_shown, metadata_of};
-ghost use Rattle.hosttrace.specs.Inputs.{FailsBy};
+ghost use Rattle.hosttrace.specs.Folders.{FILES_LIMIT, MAX_HOSTS, METADATA_LIMIT, AreRead, HasFewNames, HasMetadata, IsRead, is_shown, metadata_of};
+ghost use Rattle.hosttrace.specs.Refusals.{FolderRefuses, FoldersRefuse, NamesRefuse, SizeRefuses};
+ghost use Rattle.hosttrace.specs.Seen.{FailsBy, OnlyReads, store_seen};
 ghost use Rattle.hosttrace.specs.declared.status.Refusal.TheVariants.{TooLarge};
 ghost use Rattle.hosttrace.specs.declared.status.Status.TheVariants.{Refused};
 
@@ -39,8 +40,8 @@ pub fn read_folders<S: Store>(
     ensures read { IfOk result (λ texts. IfSome (S.holds store.old) (λ files. AreRead files 0 folders.now)) }
     ensures bytes { IfOk result (λ texts. IfSome (S.holds store.old) (λ files. texts.items ≡ map (metadata_of files) folders.now)) }
     ensures each { IfOk result (λ texts. length texts.items ≡ length folders.now) }
-    ensures fails { IfErr result (λ status. FailsBy (λ files refusal. FoldersRefuse files 0 0 folders.now refusal) (S.holds store.old) (S.faults store.old) (S.faults store.new) status) }
-    ensures keeps { S.holds store.new ≡ S.holds store.old }
+    ensures fails { IfErr result (λ status. FailsBy (λ files refusal. FoldersRefuse files 0 0 folders.now refusal) (store_seen S.holds S.faults store.old store.new) status) }
+    ensures reads { OnlyReads (store_seen S.holds S.faults store.old store.new) }
 {
     let mut texts = Vec::new(alloc);
     let mut total = 0;
@@ -64,9 +65,8 @@ fn read_folder<S: Store>(
     ensures bytes { IfOk result (λ bytes. IfSome (S.holds store.old) (λ files. bytes ≡ metadata_of files dir.now)) }
     ensures read { IfOk result (λ bytes. IfSome (S.holds store.old) (λ files. IsRead files before dir.now)) }
     ensures all { IfOk result (λ bytes. before + length bytes ≤ FILES_LIMIT) }
-    ensures fails { IfErr result (λ status. FailsBy (λ files refusal. FolderRefuses files host before dir.now refusal) (S.holds store.old) (S.faults store.old) (S.faults store.new) status) }
-    ensures grows { S.faults store.old ≤ S.faults store.new }
-    ensures keeps { S.holds store.new ≡ S.holds store.old }
+    ensures fails { IfErr result (λ status. FailsBy (λ files refusal. FolderRefuses files host before dir.now refusal) (store_seen S.holds S.faults store.old store.new) status) }
+    ensures reads { OnlyReads (store_seen S.holds S.faults store.old store.new) }
 {
     look_into(host, dir, store)?;
     read_metadata_of(alloc, before, dir, store)
@@ -76,9 +76,8 @@ fn read_folder<S: Store>(
 pub fn look_into<S: Store>(host: u32, dir: &[u8], store: &mut S) -> Result<Vec<Text>, Status>
     ensures named { OnOk result (IfSome (S.holds store.old) (λ files. HasFewNames files dir.now × HasMetadata files dir.now)) }
     ensures names { IfOk result (λ names. IfSome (S.holds store.old) (λ files. ListsNames files dir.now names.items)) }
-    ensures fails { IfErr result (λ status. FailsBy (λ files refusal. NamesRefuse files host dir.now refusal) (S.holds store.old) (S.faults store.old) (S.faults store.new) status) }
-    ensures grows { S.faults store.old ≤ S.faults store.new }
-    ensures keeps { S.holds store.new ≡ S.holds store.old }
+    ensures fails { IfErr result (λ status. FailsBy (λ files refusal. NamesRefuse files host dir.now refusal) (store_seen S.holds S.faults store.old store.new) status) }
+    ensures reads { OnlyReads (store_seen S.holds S.faults store.old store.new) }
 {
     let names = match store.names(dir) {
         Ok(names) => names,
@@ -135,9 +134,8 @@ pub fn read_metadata_of<S: Store>(
     ensures bytes { IfOk result (λ bytes. IfSome (S.holds store.old) (λ files. bytes ≡ metadata_of files dir.now)) }
     ensures small { IfOk result (λ bytes. length bytes ≤ METADATA_LIMIT) }
     ensures all { IfOk result (λ bytes. before + length bytes ≤ FILES_LIMIT) }
-    ensures fails { IfErr result (λ status. FailsBy (λ files refusal. SizeRefuses before (length (metadata_of files dir.now)) refusal) (S.holds store.old) (S.faults store.old) (S.faults store.new) status) }
-    ensures grows { S.faults store.old ≤ S.faults store.new }
-    ensures keeps { S.holds store.new ≡ S.holds store.old }
+    ensures fails { IfErr result (λ status. FailsBy (λ files refusal. SizeRefuses before (length (metadata_of files dir.now)) refusal) (store_seen S.holds S.faults store.old store.new) status) }
+    ensures reads { OnlyReads (store_seen S.holds S.faults store.old store.new) }
 {
     let bytes = match read_file(alloc, store, dir, b"metadata", METADATA_LIMIT) {
         Ok(bytes) => bytes,

@@ -4,7 +4,9 @@ ghost use Rattle.type_scope.specs.Traces.{trace};
 ghost use Rattle.type_table.specs.TraceMetas.{IsSoundMeta};
 ghost use Rattle.trace_metadata.specs.Files.{IsTrace};
 ghost use Rattle.hosttrace.specs.Folders.{MAX_HOSTS};
-ghost use Rattle.hosttrace.specs.Hosts.{AreTraces, HostsRefuse, MetadataRefuses, TextFails, host_line, host_lines};
+ghost use Rattle.hosttrace.specs.Hosts.{AreTraces, host_line, host_lines};
+ghost use Rattle.hosttrace.specs.Refusals.{HostsRefuse, MetadataRefuses};
+ghost use Rattle.hosttrace.specs.Seen.{FailsOf};
 
 use crate::status::{Refusal, Status};
 use sqlite_items::Items;
@@ -18,7 +20,7 @@ use type_table::TraceMeta;
 pub fn read_hosts(alloc: Global, files: &[Items<u8>]) -> Result<Vec<TraceMeta>, Status>
     requires { length files.now ≤ MAX_HOSTS }
     ensures traces { IfOk result (λ metas. AreTraces files.now (map trace metas.items)) }
-    ensures fails { IfErr result (λ status. TextFails (HostsRefuse 0 files.now) status) }
+    ensures fails { IfErr result (λ status. FailsOf (HostsRefuse 0 files.now) status) }
 {
     let mut metas = Vec::new(alloc);
     for at in 0..files.len() {
@@ -31,7 +33,7 @@ pub fn read_hosts(alloc: Global, files: &[Items<u8>]) -> Result<Vec<TraceMeta>, 
 pub fn read_host(alloc: Global, host: u32, bytes: &[u8]) -> Result<TraceMeta, Status>
     ensures trace { IfOk result (λ meta. IsTrace bytes.now (trace meta)) }
     ensures sound { IfOk result IsSoundMeta }
-    ensures fails { IfErr result (λ status. TextFails (MetadataRefuses host bytes.now) status) }
+    ensures fails { IfErr result (λ status. FailsOf (MetadataRefuses host bytes.now) status) }
 {
     match read_metadata(alloc, bytes) {
         Ok(meta) => Ok(meta),

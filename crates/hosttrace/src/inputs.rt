@@ -3,14 +3,17 @@ ghost use Rattle.std.specs.Prelude.{◌≡◌, ◌≤◌, [], length, IfOk, IfEr
 ghost use Rattle.std.specs.List.{AllByRecursion};
 ghost use Rattle.ht_outside.specs.Files.{bytes_of};
 ghost use Rattle.history_core.specs.Agreement.{IsMerge};
-ghost use Rattle.hosttrace.specs.Inputs.{LIST_LIMIT, IsListTrace, AreAsked, FailsBy, FileRefuses, ListRefuses, QuestionsRefuse};
-ghost use Rattle.hosttrace.specs.Means.{InputRefuses, IsInput};
+ghost use Rattle.command_words.specs.Words.{InputHasRange};
+ghost use Rattle.hosttrace.specs.Inputs.{LIST_LIMIT, IsListTrace, AreAsked};
+ghost use Rattle.hosttrace.specs.Means.{IsInput};
+ghost use Rattle.hosttrace.specs.Refusals.{FileRefuses, InputRefuses, ListRefuses, QuestionsRefuse};
+ghost use Rattle.hosttrace.specs.Seen.{FailsBy, OnlyReads, store_seen};
 ghost use Rattle.report_views.specs.Asked.{IsQuestion};
 
+use crate::clusters::read_merge;
 use crate::questions::{QuestionsError, is_crowded, read_questions};
 use crate::reading::{ReadError, read_file};
 use crate::status::{Limit, ListFile, Refusal, Status};
-use crate::traces::read_trace;
 use command_words::Input;
 use event_list::{ListError, MergedTrace, read_list};
 use history_core::Question;
@@ -64,15 +67,17 @@ pub fn read_input<S: Store>(
     input: &Input,
     store: &mut S,
 ) -> Result<MergedTrace, Status>
+    requires { InputHasRange input.now }
     ensures trace { IfOk result (λ trace. IfSome (S.holds store.old) (λ files. IsInput input.now files trace)) }
     ensures merge { IfOk result (λ trace. IsMerge trace.events.items) }
-    ensures fails { IfErr result (λ status. FailsBy (InputRefuses input.now) (S.holds store.old) (S.faults store.old) (S.faults store.new) status) }
-    ensures grows { S.faults store.old ≤ S.faults store.new }
-    ensures keeps { S.holds store.new ≡ S.holds store.old }
+    ensures fails { IfErr result (λ status. FailsBy (InputRefuses input.now) (store_seen S.holds S.faults store.old store.new) status) }
+    ensures reads { OnlyReads (store_seen S.holds S.faults store.old store.new) }
 {
     match input {
         Input::List(file) => read_events(alloc, file, store),
-        Input::Folder(dir) => read_trace(threads, alloc, dir, store),
+        Input::Folders { dirs, drift } => {
+            read_merge(threads, alloc, dirs.as_slice(), *drift, store)
+        }
     }
 }
 
@@ -80,9 +85,8 @@ pub fn read_input<S: Store>(
 fn read_events<S: Store>(alloc: Global, file: &Text, store: &mut S) -> Result<MergedTrace, Status>
     ensures list { IfOk result (λ trace. IfSome (S.holds store.old) (λ files. IsListTrace (bytes_of files [] file.now) trace)) }
     ensures merge { IfOk result (λ trace. IsMerge trace.events.items) }
-    ensures fails { IfErr result (λ status. FailsBy (λ files refusal. ListRefuses (bytes_of files [] file.now) refusal) (S.holds store.old) (S.faults store.old) (S.faults store.new) status) }
-    ensures grows { S.faults store.old ≤ S.faults store.new }
-    ensures keeps { S.holds store.new ≡ S.holds store.old }
+    ensures fails { IfErr result (λ status. FailsBy (λ files refusal. ListRefuses (bytes_of files [] file.now) refusal) (store_seen S.holds S.faults store.old store.new) status) }
+    ensures reads { OnlyReads (store_seen S.holds S.faults store.old store.new) }
 {
     let bytes = read_bytes(alloc, file, store)?;
     Ok(read_list(alloc, &bytes)?)
@@ -96,8 +100,8 @@ pub fn read_asked<S: Store>(
 ) -> Result<Vec<Question>, Status>
     ensures asked { IfOk result (λ questions. IfSome (S.holds store.old) (λ files. AreAsked (bytes_of files [] file.now) questions.items)) }
     ensures each { IfOk result (λ questions. AllByRecursion IsQuestion questions.items) }
-    ensures fails { IfErr result (λ status. FailsBy (λ files refusal. QuestionsRefuse (bytes_of files [] file.now) refusal) (S.holds store.old) (S.faults store.old) (S.faults store.new) status) }
-    ensures keeps { S.holds store.new ≡ S.holds store.old }
+    ensures fails { IfErr result (λ status. FailsBy (λ files refusal. QuestionsRefuse (bytes_of files [] file.now) refusal) (store_seen S.holds S.faults store.old store.new) status) }
+    ensures reads { OnlyReads (store_seen S.holds S.faults store.old store.new) }
 {
     let bytes = read_bytes(alloc, file, store)?;
     if is_crowded(&bytes) {
@@ -111,9 +115,8 @@ pub fn read_asked<S: Store>(
 fn read_bytes<S: Store>(alloc: Global, file: &Text, store: &mut S) -> Result<Vec<u8>, Status>
     ensures bytes { IfOk result (λ v. IfSome (S.holds store.old) (λ files. v.items ≡ bytes_of files [] file.now)) }
     ensures small { IfOk result (λ v. length v.items ≤ LIST_LIMIT) }
-    ensures fails { IfErr result (λ status. FailsBy (λ files refusal. FileRefuses (bytes_of files [] file.now) refusal) (S.holds store.old) (S.faults store.old) (S.faults store.new) status) }
-    ensures grows { S.faults store.old ≤ S.faults store.new }
-    ensures keeps { S.holds store.new ≡ S.holds store.old }
+    ensures fails { IfErr result (λ status. FailsBy (λ files refusal. FileRefuses (bytes_of files [] file.now) refusal) (store_seen S.holds S.faults store.old store.new) status) }
+    ensures reads { OnlyReads (store_seen S.holds S.faults store.old store.new) }
 {
     match read_file(alloc, store, b"", file.as_bytes(), LIST_LIMIT) {
         Ok(bytes) => Ok(bytes),

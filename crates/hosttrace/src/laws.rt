@@ -1,24 +1,28 @@
 //! What holds of all folders and question files: they have one trace, and one list of questions, at most, and a command over
 //! them one text. These functions do nothing: each is called for what it ensures.
-ghost use Rattle.std.specs.Prelude.{◌≡◌, ℕ, List};
+ghost use Rattle.std.specs.Prelude.{◌≡◌, ◌∷◌, [], ℕ, List, flat_map, map};
+ghost use Rattle.type_table.specs.SameTrace.{AreBoth};
 ghost use Rattle.ht_outside.specs.Files.{Files};
-ghost use Rattle.command_words.specs.declared.command.Input.TheVariants as input;
+ghost use Rattle.trace_types.specs.declared.host.HostEvents.{HostEvents};
+ghost use Rattle.host_merge.specs.Merge.{with_own_time};
+ghost use Rattle.host_sync.specs.Laws.{IsOneAnswer};
+ghost use Rattle.host_sync.specs.Synced.{Synced};
 ghost use Rattle.history_core.specs.declared.question.Question.{Question};
 ghost use Rattle.command_words.specs.declared.command.PlainCommand.{PlainCommand};
-ghost use Rattle.hosttrace.specs.Means.{IsAskOutput, IsEventsOutput, IsGood, IsOutput, IsStateOutput, Refuses};
-ghost use Rattle.hosttrace.specs.Merges.{FolderTrace, FolderTraceRefuses, IsFolderTrace, IsGoodFolder};
+ghost use Rattle.hosttrace.specs.Clusters.{AreSyncedTraces, IsGoodCluster, IsSameHost};
+ghost use Rattle.hosttrace.specs.Means.{IsGood, IsOutput, Refuses};
 ghost use Rattle.hosttrace.specs.Questions.{AreQuestions, IsFirstBadQuestion};
+ghost use Rattle.hosttrace.specs.Refusals.{ClusterRefuses};
 ghost use Rattle.hosttrace.specs.declared.status.Refusal.{Refusal};
 
-/// A folder has at most one trace, whatever places its types are kept at, and where it has one it is good and isn't refused; so its list
-/// of events, each of its states, and its answers to a question file are one text each.
-pub fn one_folder()
-    ensures trace { (files : Files) (dir : List ℕ) (t u : FolderTrace) → IsFolderTrace files dir t → IsFolderTrace files dir u → t ≡ u }
-    ensures refused { (files : Files) (dir : List ℕ) (t : FolderTrace) (refusal : Refusal) → IsFolderTrace files dir t → ¬ (FolderTraceRefuses files dir refusal) }
-    ensures good { (files : Files) (dir : List ℕ) (t : FolderTrace) → IsFolderTrace files dir t → IsGoodFolder files dir }
-    ensures events { (files : Files) (dir a b : List ℕ) → IsEventsOutput files dir a → IsEventsOutput files dir b → a ≡ b }
-    ensures state { (files : Files) (dir : List ℕ) (at : ℕ) (a b : List ℕ) → IsStateOutput files (input.Folder dir) at a → IsStateOutput files (input.Folder dir) at b → a ≡ b }
-    ensures answers { (files : Files) (dir questions a b : List ℕ) → IsAskOutput files (input.Folder dir) questions a → IsAskOutput files (input.Folder dir) questions b → a ≡ b }
+/// Folders and a drift have at most one list of hosts and one merge of them, whatever places the types of traces are kept at. Where
+/// they have one they are good and aren't refused; the merge of one folder alone is its host's own list.
+pub fn one_cluster()
+    ensures found { (files : Files) (dirs : List (List ℕ)) (drift rate : ℕ) (found others : List HostEvents) (s z : Synced) → AreSyncedTraces files dirs drift found s → AreSyncedTraces files dirs rate others z → AreBoth IsSameHost found others }
+    ensures synced { (files : Files) (dirs : List (List ℕ)) (drift : ℕ) (found others : List HostEvents) (s z : Synced) → AreSyncedTraces files dirs drift found s → AreSyncedTraces files dirs drift others z → IsOneAnswer found s z }
+    ensures refused { (files : Files) (dirs : List (List ℕ)) (drift : ℕ) (found : List HostEvents) (s : Synced) (refusal : Refusal) → AreSyncedTraces files dirs drift found s → ¬ (ClusterRefuses files dirs refusal) }
+    ensures good { (files : Files) (dirs : List (List ℕ)) (drift : ℕ) (found : List HostEvents) (s : Synced) → AreSyncedTraces files dirs drift found s → IsGoodCluster files dirs }
+    ensures alone { (files : Files) (dir : List ℕ) (drift : ℕ) (found : List HostEvents) (s : Synced) → AreSyncedTraces files (dir ∷ []) drift found s → s.merged ≡ flat_map (λ host. map with_own_time host.events.items) found }
 {}
 
 /// A text spells at most one list of questions. One that spells a list has no bad line, and any other has one first bad line.

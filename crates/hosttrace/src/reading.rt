@@ -3,6 +3,7 @@ ghost use Rattle.std.specs.Prelude.{◌≡◌, ◌<◌, ◌≤◌, ◌≢◌, �
 ghost use Rattle.ht_outside.specs.Faults.{HasRisen};
 ghost use Rattle.ht_outside.specs.Files.{bytes_of};
 ghost use Rattle.hosttrace.specs.Reading.{HasPart};
+ghost use Rattle.hosttrace.specs.Seen.{OnlyReads, store_seen};
 ghost use Rattle.hosttrace.specs.declared.reading.ReadError.TheVariants.{Fault, TooLarge};
 
 use ht_outside::{Store, StoreError};
@@ -43,8 +44,7 @@ pub fn read_file<S: Store>(
     ensures small { IfOk result (λ v. length v.items ≤ limit) }
     ensures large { result ≡ Err TooLarge → IfSome (S.holds store.old) (λ files. limit < length (bytes_of files dir.now name.now)) }
     ensures fault { result ≡ Err Fault → HasRisen (S.faults store.old) (S.faults store.new) }
-    ensures grows { S.faults store.old ≤ S.faults store.new }
-    ensures keeps { S.holds store.new ≡ S.holds store.old }
+    ensures reads { OnlyReads (store_seen S.holds S.faults store.old store.new) }
 {
     let mut buffer = zeros(alloc, BUFFER_SIZE)?;
     let mut bytes = Vec::new(alloc);
@@ -75,8 +75,7 @@ fn read_all<S: Store>(
     ensures small { OnOk result (length bytes.new.items ≤ limit) }
     ensures large { result ≡ Err TooLarge → IfSome (S.holds store.old) (λ files. limit < length (bytes_of files dir.now name.now)) }
     ensures fault { result ≡ Err Fault → HasRisen (S.faults store.old) (S.faults store.new) }
-    ensures grows { S.faults store.old ≤ S.faults store.new }
-    ensures keeps { S.holds store.new ≡ S.holds store.old }
+    ensures reads { OnlyReads (store_seen S.holds S.faults store.old store.new) }
 {
     while bytes.len() <= limit {
         let size = buffer.len().min(limit + 1 - bytes.len());
@@ -100,8 +99,7 @@ fn read_part<S: Store>(
     ensures part { IfOk result (λ n. IfSome (S.holds store.old) (λ files. HasPart (bytes_of files dir.now name.now) bytes.old.items n bytes.new.items)) }
     ensures large { result ≢ Err TooLarge }
     ensures fault { result ≡ Err Fault → HasRisen (S.faults store.old) (S.faults store.new) }
-    ensures grows { S.faults store.old ≤ S.faults store.new }
-    ensures keeps { S.holds store.new ≡ S.holds store.old }
+    ensures reads { OnlyReads (store_seen S.holds S.faults store.old store.new) }
 {
     match store.read(dir, name, bytes.len() as u64, buffer) {
         Ok(count) => {

@@ -1,13 +1,14 @@
 //! Reading the stream files of a trace's folder.
-ghost use Rattle.std.specs.Prelude.{◌≡◌, ◌+◌, ◌≤◌, length, filter, IfOk, IfErr, IfSome, IsPermutation};
+ghost use Rattle.std.specs.Prelude.{◌≡◌, ◌+◌, ◌≤◌, length, filter, IfOk, IfErr, IfSome, OnOk, IsPermutation};
 ghost use Rattle.std.specs.Cmp.Lexicographic.{slice_cmp};
 ghost use Rattle.std.specs.List.{AllByRecursion, AllPairs};
 ghost use Rattle.std.specs.Ordering.{nat_cmp};
 ghost use Rattle.decode_pool.specs.Hosts.{IsSmall};
 ghost use Rattle.ht_outside.specs.Files.{bytes_of};
 ghost use Rattle.hosttrace.specs.Folders.{FILES_LIMIT};
-ghost use Rattle.hosttrace.specs.Inputs.{FailsBy};
-ghost use Rattle.hosttrace.specs.Streams.{AreChosen, AreFiles, AreStreamsRead, IsNameNotAfter, StreamFits, StreamRefuses, StreamsRefuse, is_stream_name, size_of};
+ghost use Rattle.hosttrace.specs.Refusals.{StreamRefuses, StreamsRefuse};
+ghost use Rattle.hosttrace.specs.Seen.{FailsBy, OnlyReads, store_seen};
+ghost use Rattle.hosttrace.specs.Streams.{AreChosen, AreFiles, AreStreamsRead, IsNameNotAfter, StreamFits, is_stream_name, size_of, streams_size};
 
 use crate::folders::{FILES_LIMIT, is_shown, too_large};
 use crate::inputs::LIST_LIMIT;
@@ -57,27 +58,27 @@ fn sort_names(names: &mut [Text])
     );
 }
 
-/// The files of these names, where so many bytes of others were read before.
+/// The files of these names. `total` is how many bytes of files were read so far, and grows by theirs.
 pub fn read_streams<S: Store>(
     alloc: Global,
     dir: &[u8],
     names: &[Text],
-    before: usize,
+    total: &mut usize,
     store: &mut S,
 ) -> Result<Vec<FileBytes>, Status>
-    requires { before ≤ FILES_LIMIT }
-    ensures read { IfOk result (λ fs. IfSome (S.holds store.old) (λ files. AreStreamsRead files dir.now before names.now)) }
+    requires { total.old ≤ FILES_LIMIT }
+    ensures read { IfOk result (λ fs. IfSome (S.holds store.old) (λ files. AreStreamsRead files dir.now total.old names.now)) }
     ensures are { IfOk result (λ fs. IfSome (S.holds store.old) (λ files. AreFiles files dir.now names.now fs.items)) }
+    ensures total { IfOk result (λ fs. IfSome (S.holds store.old) (λ files. total.new ≡ total.old + streams_size files dir.now names.now)) }
+    ensures within { OnOk result (total.new ≤ FILES_LIMIT) }
     ensures small { IfOk result (λ fs. AllByRecursion IsSmall fs.items) }
-    ensures fails { IfErr result (λ status. FailsBy (λ files refusal. StreamsRefuse files dir.now before names.now refusal) (S.holds store.old) (S.faults store.old) (S.faults store.new) status) }
-    ensures grows { S.faults store.old ≤ S.faults store.new }
-    ensures keeps { S.holds store.new ≡ S.holds store.old }
+    ensures fails { IfErr result (λ status. FailsBy (λ files refusal. StreamsRefuse files dir.now total.old names.now refusal) (store_seen S.holds S.faults store.old store.new) status) }
+    ensures reads { OnlyReads (store_seen S.holds S.faults store.old store.new) }
 {
     let mut files = Vec::new(alloc);
-    let mut total = before;
     for at in 0..names.len() {
-        let file = read_stream(alloc, dir, &names[at], total, store)?;
-        total += file.bytes.len();
+        let file = read_stream(alloc, dir, &names[at], *total, store)?;
+        *total += file.bytes.len();
         files.push(file)?;
     }
     Ok(files)
@@ -96,9 +97,8 @@ fn read_stream<S: Store>(
     ensures bytes { IfOk result (λ f. IfSome (S.holds store.old) (λ files. f.bytes.items ≡ bytes_of files dir.now name.now)) }
     ensures small { IfOk result (λ f. IsSmall f) }
     ensures fits { IfOk result (λ f. StreamFits before (length f.bytes.items)) }
-    ensures fails { IfErr result (λ status. FailsBy (λ files refusal. StreamRefuses before (size_of files dir.now name.now) refusal) (S.holds store.old) (S.faults store.old) (S.faults store.new) status) }
-    ensures grows { S.faults store.old ≤ S.faults store.new }
-    ensures keeps { S.holds store.new ≡ S.holds store.old }
+    ensures fails { IfErr result (λ status. FailsBy (λ files refusal. StreamRefuses before (size_of files dir.now name.now) refusal) (store_seen S.holds S.faults store.old store.new) status) }
+    ensures reads { OnlyReads (store_seen S.holds S.faults store.old store.new) }
 {
     let bytes = match read_file(alloc, store, dir, name.as_bytes(), LIST_LIMIT) {
         Ok(bytes) => bytes,

@@ -1,5 +1,7 @@
 //! Runs words over files in memory.
-use hosttrace::{Status, run};
+ghost use Rattle.command_words.specs.Words.{HasRanges};
+
+use hosttrace::{PlainCommand, Status, run, run_plain};
 use ht_outside::{MemorySink, MemoryStore, OpenGate};
 use std::alloc::AllocGlobal;
 use std::test::Fail;
@@ -55,6 +57,29 @@ pub fn run_in<R: AllocGlobal + Threads + Sync>(
         bytes: Vec::new(alloc),
     };
     let status = run(rt, alloc, &words, &mut store, &mut out, &mut err, &OpenGate);
+    Ok(Ran {
+        status,
+        out: out.bytes,
+        err: err.bytes,
+    })
+}
+
+/// Runs a command over the files of a store.
+pub fn run_command<R: AllocGlobal + Threads + Sync>(
+    rt: &R,
+    command: &PlainCommand,
+    mut store: MemoryStore,
+) -> Result<Ran, Fail>
+    requires { HasRanges command.now }
+{
+    let alloc = rt.alloc();
+    let mut out = MemorySink {
+        bytes: Vec::new(alloc),
+    };
+    let mut err = MemorySink {
+        bytes: Vec::new(alloc),
+    };
+    let status = run_plain(rt, alloc, command, &mut store, &mut out, &mut err);
     Ok(Ran {
         status,
         out: out.bytes,

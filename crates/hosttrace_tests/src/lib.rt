@@ -10,6 +10,8 @@ mod bad_questions;
 #[cfg(test)]
 mod check_runs;
 #[cfg(test)]
+mod cluster_runs;
+#[cfg(test)]
 mod faults;
 #[cfg(test)]
 mod folders;

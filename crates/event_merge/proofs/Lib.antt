@@ -1,4 +1,0 @@
-pub mod Decoded
-pub mod Ordered
-pub mod Ranges
-pub mod KindRanges

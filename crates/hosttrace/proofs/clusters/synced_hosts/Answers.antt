@@ -1,0 +1,8 @@
+use Rattle.std.proofs.Common.{rules}
+use Rattle.host_sync.proofs.Syncable.{decoded_are_syncable}
+use Rattle.hosttrace.proofs.clusters.synced_hosts.Goals as goal
+
+pub synchronize-requires-clause-hosts : goal.synchronize-requires-clause-hosts
+synchronize-requires-clause-hosts g c =
+    let can = decoded_are_syncable c.args.hosts.now c.in-Ok.found.items c.in-Ok.ensures.hosts c.requires.numbered c.requires.few c.in-Ok.ensures.within.1 in
+    search rules

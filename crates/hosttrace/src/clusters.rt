@@ -1,0 +1,166 @@
+//! The traces of folders on one clock.
+ghost use Rattle.std.specs.Prelude.{◌≡◌, ◌≤◌, length, map, IfOk, IfErr, IfSome};
+ghost use Rattle.std.specs.List.{AllByRecursion};
+ghost use Rattle.command_words.specs.Words.{IsDrift};
+ghost use Rattle.history_core.specs.Agreement.{IsMerge};
+ghost use Rattle.decode_pool.specs.Limits.{AreHosts, HasSmallFiles};
+ghost use Rattle.host_sync.specs.Hosts.{synced_of};
+ghost use Rattle.host_sync.specs.Laws.{FilesAreNumbered};
+ghost use Rattle.host_sync.specs.Synced.{IsSynced};
+ghost use Rattle.hosttrace.specs.Clusters.{AreSyncedTraces, IsCluster, IsWithinLimits};
+ghost use Rattle.hosttrace.specs.Folders.{MAX_HOSTS};
+ghost use Rattle.hosttrace.specs.Read.{AreDeclared, HasSmallStreams};
+ghost use Rattle.hosttrace.specs.Refusals.{ClusterRefuses, HostsRefuse, LimitsRefuse, ReadingRefuses};
+ghost use Rattle.hosttrace.specs.Seen.{FailsBy, FailsOf, OnlyReads, store_seen};
+ghost use Rattle.hosttrace.specs.Streams.{AreHostsOf};
+
+use crate::folders::{is_crowd, too_large};
+use crate::hosts::read_host;
+use crate::status::{Limit, Refusal, Status};
+use crate::trace_files::{FolderFiles, read_trace_files};
+use decode_pool::{DecodeError, HostFiles, decode_all};
+use event_list::{MergedTrace, NameList};
+use host_sync::{SyncedHosts, synchronize};
+use ht_outside::Store;
+use std::alloc::Global;
+use std::thread::Threads;
+use trace_types::{HostEvents, MAX_HOSTS, OutOfMemory, Text};
+
+/// The hosts of folders, and what synchronization gives of them.
+#[derive(Drop)]
+pub struct Cluster {
+    pub hosts: Vec<HostEvents>,
+    pub synced: SyncedHosts,
+}
+
+/// The merge of folders' traces, by a drift in parts per million, or the status that tells why there is none.
+pub fn read_merge<S: Store>(
+    threads: &(impl Threads + Sync),
+    alloc: Global,
+    dirs: &[Text],
+    drift: u32,
+    store: &mut S,
+) -> Result<MergedTrace, Status>
+    requires { IsDrift drift }
+    ensures trace { IfOk result (λ trace. IfSome (S.holds store.old) (λ files. IsCluster files dirs.now drift trace)) }
+    ensures merge { IfOk result (λ trace. IsMerge trace.events.items) }
+    ensures fails { IfErr result (λ status. FailsBy (λ files refusal. ClusterRefuses files dirs.now refusal) (store_seen S.holds S.faults store.old store.new) status) }
+    ensures reads { OnlyReads (store_seen S.holds S.faults store.old store.new) }
+{
+    let cluster = read_cluster(threads, alloc, dirs, drift, store)?;
+    match merged_trace(alloc, cluster) {
+        Ok(trace) => Ok(trace),
+        Err(OutOfMemory) => Err(Status::NoMemory),
+    }
+}
+
+/// The hosts of folders on one clock, by a drift in parts per million, or the status that tells why there are none.
+pub fn read_cluster<S: Store>(
+    threads: &(impl Threads + Sync),
+    alloc: Global,
+    dirs: &[Text],
+    drift: u32,
+    store: &mut S,
+) -> Result<Cluster, Status>
+    requires { IsDrift drift }
+    ensures cluster { IfOk result (λ c. IfSome (S.holds store.old) (λ files. AreSyncedTraces files dirs.now drift c.hosts.items (synced_of c.synced))) }
+    ensures merge { IfOk result (λ c. IsMerge c.synced.merged.items) }
+    ensures fails { IfErr result (λ status. FailsBy (λ files refusal. ClusterRefuses files dirs.now refusal) (store_seen S.holds S.faults store.old store.new) status) }
+    ensures reads { OnlyReads (store_seen S.holds S.faults store.old store.new) }
+{
+    if is_crowd(dirs) {
+        return Err(too_large(Limit::Hosts));
+    }
+    let hosts = read_host_files(alloc, dirs, store)?;
+    synced_hosts(threads, alloc, &hosts, drift)
+}
+
+// What the metadata of each folder declares, and its stream files.
+fn read_host_files<S: Store>(
+    alloc: Global,
+    dirs: &[Text],
+    store: &mut S,
+) -> Result<Vec<HostFiles>, Status>
+    requires { length dirs.now ≤ MAX_HOSTS }
+    ensures hosts { IfOk result (λ hosts. IfSome (S.holds store.old) (λ files. AreHostsOf files dirs.now hosts.items)) }
+    ensures numbered { IfOk result (λ hosts. FilesAreNumbered hosts.items) }
+    ensures few { IfOk result (λ hosts. length hosts.items ≤ MAX_HOSTS) }
+    ensures small { IfOk result (λ hosts. AllByRecursion HasSmallFiles hosts.items) }
+    ensures fails { IfErr result (λ status. FailsBy (λ files refusal. ReadingRefuses files dirs.now refusal) (store_seen S.holds S.faults store.old store.new) status) }
+    ensures reads { OnlyReads (store_seen S.holds S.faults store.old store.new) }
+{
+    let read = read_trace_files(alloc, dirs, store)?;
+    declared_hosts(alloc, read)
+}
+
+// The hosts whose files were read, numbered from 0, or the status that tells of the first metadata that is refused.
+fn declared_hosts(alloc: Global, read: Vec<FolderFiles>) -> Result<Vec<HostFiles>, Status>
+    requires few { length read.items ≤ MAX_HOSTS }
+    requires small { AllByRecursion HasSmallStreams read.items }
+    ensures hosts { IfOk result (λ hosts. AreDeclared 0 read.items hosts.items) }
+    ensures small { IfOk result (λ hosts. AllByRecursion HasSmallFiles hosts.items) }
+    ensures fails { IfErr result (λ status. FailsOf (HostsRefuse 0 (map (λ r. r.metadata) read.items)) status) }
+{
+    let mut hosts = Vec::new(alloc);
+    let mut host = 0;
+    for folder in read {
+        let meta = read_host(alloc, host, folder.metadata.as_slice())?;
+        hosts.push(HostFiles {
+            host,
+            meta,
+            files: folder.streams,
+        })?;
+        host += 1;
+    }
+    Ok(hosts)
+}
+
+// What the files of hosts hold, on one clock, or the status that tells that it is too much.
+fn synced_hosts(
+    threads: &(impl Threads + Sync),
+    alloc: Global,
+    hosts: &[HostFiles],
+    drift: u32,
+) -> Result<Cluster, Status>
+    requires small { AllByRecursion HasSmallFiles hosts.now }
+    requires numbered { FilesAreNumbered hosts.now }
+    requires few { length hosts.now ≤ MAX_HOSTS }
+    requires drift { IsDrift drift }
+    ensures cluster { IfOk result (λ c. IsWithinLimits hosts.now × AreHosts hosts.now c.hosts.items × IsSynced c.hosts.items drift (synced_of c.synced)) }
+    ensures merge { IfOk result (λ c. IsMerge c.synced.merged.items) }
+    ensures fails { IfErr result (λ status. FailsOf (LimitsRefuse hosts.now) status) }
+{
+    let hosts = match decode_all(threads, alloc, hosts) {
+        Ok(found) => found,
+        Err(DecodeError::TooManyPackets) => return Err(too_large(Limit::Packets)),
+        Err(DecodeError::TooManyEvents) => return Err(Status::Refused(Refusal::TooManyEvents)),
+        Err(DecodeError::OutOfMemory) => return Err(Status::NoMemory),
+    };
+    match synchronize(alloc, &hosts, drift) {
+        Ok(synced) => Ok(Cluster { hosts, synced }),
+        Err(OutOfMemory) => Err(Status::NoMemory),
+    }
+}
+
+// The merge with the names of each host. The events aren't copied.
+fn merged_trace(alloc: Global, cluster: Cluster) -> Result<MergedTrace, OutOfMemory>
+    ensures events { IfOk result (λ trace. trace.events.items ≡ cluster.synced.merged.items) }
+    ensures names { IfOk result (λ trace. trace.names.items ≡ map (λ host. host.names.items) cluster.hosts.items) }
+{
+    let names = names_of(alloc, cluster.hosts)?;
+    Ok(MergedTrace {
+        events: cluster.synced.merged,
+        names,
+    })
+}
+
+// The event names of each host.
+fn names_of(alloc: Global, hosts: Vec<HostEvents>) -> Result<Vec<NameList>, OutOfMemory>
+    ensures { IfOk result (λ names. names.items ≡ map (λ host. host.names.items) hosts.items) }
+{
+    let mut names = Vec::new(alloc);
+    for host in hosts {
+        names.push(NameList::from_vec(host.names))?;
+    }
+    Ok(names)
+}
