@@ -1,5 +1,5 @@
 -- The highest and the lowest of the lines of one slope through the points that were seen so far.
-use Rattle.std.proofs.Common.{◌≡◌, ℕ, ◌+◌, ◌*◌, ◌≤◌, arith, refl, List, length, get_or}
+use Rattle.std.proofs.Common.{◌≡◌, ℕ, arith, refl, List, length, get_or}
 use Rattle.std.specs.Prelude.{Contains}
 use Rattle.std.specs.List.{AllWithin}
 use Rattle.clock_fraction.specs.declared.line.Line.{Line}
@@ -8,10 +8,7 @@ use Rattle.clock_fraction.specs.ClockMap.{IsFloorAt}
 use Rattle.clock_fraction.proofs.Heights.{floors_ordered}
 use Rattle.hull_lines.specs.declared.point.ClockPoint.{ClockPoint}
 use Rattle.hull_lines.specs.Lines.{through, IsHighest, IsLowest}
-
--- the line through the first point isn't higher than that through the second
-abbrev pub IsNotHigher : Slope → ClockPoint → ClockPoint → Type 0
-IsNotHigher slope a b = slope.q * a.y + slope.p * b.x ≤ slope.q * b.y + slope.p * a.x
+use Rattle.hull_lines.specs.Worst.{IsNotHigher}
 
 -- of the first n points and itself, the best is highest
 pub record IsHighestSeen (points : List ClockPoint) (slope : Slope) (n : ℕ) (best : ClockPoint) : Type 0 where

@@ -4,3 +4,4 @@ pub mod Decided
 pub mod Narrowing
 pub mod OneLine
 pub mod Seen
+pub mod Tight

@@ -82,7 +82,7 @@ all_none lower upper drift start w = record {
   };
 }
 
-least_of_pair : (lower upper : List ClockPoint) (drift i j : ℕ) (l u : ClockPoint) (side : Side) → AreAt lower upper i j l u → IsPairBelow i j l u side → IsLeastSide lower upper drift side
+pub least_of_pair : (lower upper : List ClockPoint) (drift i j : ℕ) (l u : ClockPoint) (side : Side) → AreAt lower upper i j l u → IsPairBelow i j l u side → IsLeastSide lower upper drift side
 least_of_pair lower upper drift i j l u side at below =
     let some : 0 < side.slope.q = side.slope.q_above in
     let later : u.x < l.x = omega (arith, below.run) in
@@ -93,7 +93,7 @@ least_of_pair lower upper drift i j l u side at below =
       rise = below.rise;
     }
 
-greatest_of_pair : (lower upper : List ClockPoint) (drift i j : ℕ) (l u : ClockPoint) (side : Side) → AreAt lower upper i j l u → IsPairAbove i j l u side → IsGreatestSide lower upper drift side
+pub greatest_of_pair : (lower upper : List ClockPoint) (drift i j : ℕ) (l u : ClockPoint) (side : Side) → AreAt lower upper i j l u → IsPairAbove i j l u side → IsGreatestSide lower upper drift side
 greatest_of_pair lower upper drift i j l u side at above =
     let some : 0 < side.slope.q = side.slope.q_above in
     let later : l.x < u.x = omega (arith, above.run) in

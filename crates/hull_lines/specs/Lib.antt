@@ -4,3 +4,4 @@ pub mod Lines
 pub mod Outcomes
 pub mod Ranges
 pub mod Slopes
+pub mod Worst

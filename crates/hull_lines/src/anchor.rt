@@ -6,7 +6,7 @@ use crate::ClockPoint;
 use clock_fraction::{Line, Slope};
 
 /// Whether the line of this slope through the first point is higher than that through the second.
-fn is_higher(slope: Slope, first: ClockPoint, second: ClockPoint) -> bool
+pub fn is_higher(slope: Slope, first: ClockPoint, second: ClockPoint) -> bool
     ensures { IsTrue result ↔ IsHigher slope first second }
 {
     let p = u128::from(slope.p);

@@ -6,7 +6,7 @@ ghost use Rattle.hull_lines.specs.Slopes.{IsUsable};
 
 use crate::anchor::{highest_line, lowest_line};
 use crate::range::SlopeRange;
-use crate::rows::slopes_between;
+use crate::slopes::slopes_between;
 use crate::{Certificate, ClockPoint, Fit};
 use clock_fraction::{PairMap, compare};
 use std::cmp::Ordering;

@@ -8,6 +8,8 @@ mod outcome;
 mod point;
 mod range;
 mod rows;
+mod slopes;
+mod worst;
 
 pub use fit::lines;
 pub use outcome::{Bound, Certificate, Fit};

@@ -10,7 +10,7 @@ use clock_fraction::Slope;
 const MILLION: u64 = 1_000_000;
 
 /// The slopes within so many parts in a million of 1.
-fn slopes_within(drift: u32) -> SlopeRange
+pub fn slopes_within(drift: u32) -> SlopeRange
     requires { drift ≤ 10000 }
     ensures { IsWithinDrift drift result }
 {
@@ -57,8 +57,8 @@ fn narrowed_by_row(
     Ok(range)
 }
 
-/// The slopes within so many parts in a million of 1 that pass each pair.
-pub fn slopes_between(
+/// The slopes within so many parts in a million of 1 that pass each pair, found by trying all pairs.
+pub fn slopes_by_all_pairs(
     lower: &[ClockPoint],
     upper: &[ClockPoint],
     drift: u32,

@@ -2,7 +2,7 @@ use Rattle.std.proofs.Common.{length, refl, arith}
 use Rattle.std.proofs.lemmas.Option.{slice_get_read}
 use Rattle.std.proofs.lemmas.Result.{err_from_is_err_and}
 use Rattle.hull_lines.proofs.Seen.{all_none, all_more, all_all, refused_row}
-use Rattle.hull_lines.proofs.rows.slopes_between.Goals as goal
+use Rattle.hull_lines.proofs.rows.slopes_by_all_pairs.Goals as goal
 
 pub loop-place-init : goal.loop-place-init
 loop-place-init c = all_none c.args.lower.now c.args.upper.now c.args.drift c.slopes_within-range.result c.slopes_within-range.ensures
