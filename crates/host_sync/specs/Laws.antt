@@ -51,6 +51,7 @@ pub record IsOneAnswer (hosts : List HostEvents) (s z : Synced) : Type 0 where
   pub merged : s.merged ≡ z.merged
   pub placed : s.placed ≡ z.placed
 
+-- all that synchronization may give of the same hosts and drift is one answer
 abbrev pub HaveOneAnswer : Type 0
 HaveOneAnswer = (hosts : List HostEvents) (drift : ℕ) (s z : Synced) → AreSyncable hosts → IsSynced hosts drift s → IsSynced hosts drift z → IsOneAnswer hosts s z
 

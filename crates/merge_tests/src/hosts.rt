@@ -60,7 +60,7 @@ fn key(number: u32) -> SegKey {
     }
 }
 
-fn host_of(alloc: Global, number: u32, events: &[Event]) -> Result<HostEvents, AllocError>
+pub fn host_of(alloc: Global, number: u32, events: &[Event]) -> Result<HostEvents, AllocError>
     ensures number { IfOk result (λ host. host.host ≡ number) }
     ensures events { IfOk result (λ host. host.events.items ≡ events.now) }
 {

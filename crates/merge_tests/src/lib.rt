@@ -4,4 +4,6 @@
 #[cfg(test)]
 mod hosts;
 #[cfg(test)]
+mod synced;
+#[cfg(test)]
 mod worked;
