@@ -9,8 +9,9 @@ use Rattle.kernel_provider.specs.Replay.{state_at}
 use Rattle.report_views.specs.AnswersText.{asked_text}
 use Rattle.report_views.specs.StateText.{IsStateText}
 use Rattle.hosttrace.specs.Inputs.{AreAsked}
-use Rattle.hosttrace.specs.Means.{AskRefuses, Refuses, IsAskOutput, IsInput, IsStateOutput}
-use Rattle.hosttrace.specs.Refusals.{InputRefuses, QuestionsRefuse}
+use Rattle.hosttrace.specs.Means.{IsAskOutput, IsStateOutput}
+use Rattle.hosttrace.specs.Clusters.{IsInput}
+use Rattle.hosttrace.specs.Refusals.{AskRefuses, InputRefuses, QuestionsRefuse, Refuses}
 use Rattle.hosttrace.specs.Seen.{FailsBy, StoreSeen}
 use Rattle.hosttrace.specs.declared.status.Status.{Status}
 use Rattle.command_words.specs.declared.command.PlainCommand.{PlainCommand}
