@@ -2,7 +2,7 @@
 use Rattle.std.proofs.Common.{All, Bool, Contains, true, false, cond, filter, ◌*◌, ◌^◌, ◌≡◌, ◌∙◌, ◌<◌, inl, inr, ℕ, zero, suc, ◌+◌, ◌≤◌, List, [], ◌∷◌, length, map, slice_get, Option, Some, None, refl, sym, ap, ap₂, subst, arith}
 use Rattle.std.specs.Prelude.{IfSome}
 use Rattle.ht_outside.specs.Files.{Files}
-use Rattle.type_scope.specs.Traces.{Trace, trace}
+use Rattle.type_scope.specs.Traces.{trace}
 use Rattle.trace_types.specs.declared.host.HostEvents.{HostEvents}
 use Rattle.decode_pool.specs.Limits.{AreHosts}
 use Rattle.decode_pool.specs.declared.hosts.HostFiles.{HostFiles}

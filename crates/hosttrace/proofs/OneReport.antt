@@ -1,27 +1,21 @@
 -- Two answers of synchronization that are one have one report.
-use Rattle.std.proofs.Common.{◌≡◌, ◌∙◌, ◌≤◌, ◌<◌, ◌+◌, ◌-◌, ◌*◌, ◌/◌, ℕ, ℤ, pos, ◌-ℤ◌, zero, suc, Bool, true, false, Option, Some, None, List, [], ◌∷◌, ◌++◌, length, slice_get, if◌then◌else◌, ◌==◌, refl, sym, ap, ap₂, subst, arith}
+use Rattle.std.proofs.Common.{◌≡◌, ◌∙◌, ◌≤◌, ◌<◌, ◌+◌, ◌-◌, ◌*◌, ◌/◌, ℕ, pos, ◌-ℤ◌, zero, suc, Bool, true, false, Option, Some, None, List, [], ◌∷◌, ◌++◌, length, slice_get, refl, sym, ap, ap₂, arith}
 use Rattle.std.specs.Prelude.{flat_map}
 use Rattle.std.proofs.Math.Nat.{mul_comm, mul_right_comm, mul-div-mul_right}
 use Rattle.std.specs.List.{range_with_len}
 use Rattle.type_table.specs.SameTrace.{AreBoth}
-use Rattle.trace_types.specs.declared.event.Event.{Event}
-use Rattle.trace_types.specs.declared.event.Merged.{Merged}
 use Rattle.trace_types.specs.declared.host.HostEvents.{HostEvents}
-use Rattle.trace_types.specs.declared.host.RefusedPacket.{RefusedPacket}
-use Rattle.message_match.specs.declared.message.Message.{Message}
 use Rattle.clock_fraction.specs.Fractions.{IsSame}
 use Rattle.clock_fraction.specs.declared.pair_map.PairMap.{PairMap}
 use Rattle.clock_fraction.specs.declared.slope.Slope.{Slope}
 use Rattle.hull_lines.specs.declared.outcome.Fit.{Fit}
 use Rattle.hull_lines.specs.declared.outcome.Fit.TheVariants.{Map, Absent, Refused}
-use Rattle.host_tree.specs.Forest.{IsUsablePair}
 use Rattle.host_tree.specs.Order.{HaveSamePairs}
 use Rattle.host_tree.specs.declared.parent.Parent.{Parent}
 use Rattle.host_tree.specs.declared.parent.Parent.TheVariants.{Root, Child}
-use Rattle.host_merge.specs.declared.placed.Placed.{Placed}
 use Rattle.host_sync.specs.Laws.{IsOneAnswer, IsSameParentAndSlopes}
 use Rattle.host_sync.specs.Synced.{Synced}
-use Rattle.report_views.specs.Report.{clocks_part, count_from, deviation, host_line, hosts_part, is_map, lost_line, merge_part, pair_line, pair_lines, pair_lines_of, refused_lines, report_text, tree_line, tree_lines, yes_or_no}
+use Rattle.report_views.specs.Report.{clocks_part, count_from, deviation, host_line, hosts_part, is_map, lost_line, merge_part, pair_line, pair_lines, pair_lines_of, refused_lines, report_text, tree_line, tree_lines}
 use Rattle.hosttrace.specs.Clusters.{IsSameHost}
 use Rattle.hosttrace.proofs.OneSync.{same_length}
 

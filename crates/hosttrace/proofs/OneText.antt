@@ -1,7 +1,6 @@
 -- A command has one text at most over given files. Where it has one they are good, and nothing refuses them.
-use Rattle.std.proofs.Common.{◌≡◌, ◌∙◌, ℕ, ◌+◌, List, [], ◌∷◌, length, refl, sym, ap, ap₂, subst₂}
+use Rattle.std.proofs.Common.{◌≡◌, ◌∙◌, ℕ, List, [], ◌∷◌, refl, sym, ap, ap₂, subst₂}
 use Rattle.std.specs.Prelude.{flat_map}
-use Rattle.std.specs.List.{AllByRecursion}
 use Rattle.ht_outside.specs.Files.{Files, bytes_of}
 use Rattle.type_scope.specs.Traces.{Trace}
 use Rattle.trace_metadata.proofs.OneTrace.{one_trace}
@@ -15,7 +14,6 @@ use Rattle.command_words.specs.declared.command.Input.{Input}
 use Rattle.command_words.specs.declared.command.Input.TheVariants as input
 use Rattle.command_words.specs.declared.command.PlainCommand.{PlainCommand}
 use Rattle.command_words.specs.declared.command.PlainCommand.TheVariants.{Ask, Check, Events, Report, State}
-use Rattle.trace_types.specs.declared.event.Merged.{Merged}
 use Rattle.trace_types.specs.declared.host.HostEvents.{HostEvents}
 use Rattle.host_sync.specs.Laws.{IsOneAnswer}
 use Rattle.host_sync.specs.Synced.{Synced}

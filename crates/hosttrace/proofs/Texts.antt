@@ -1,5 +1,5 @@
 -- The texts of inputs.
-use Rattle.std.proofs.Common.{Bool, inr, inl, ◌≡◌, ◌∙◌, ℕ, List, [], ◌∷◌, Option, Some, None, ap₂, subst, subst₂, sym}
+use Rattle.std.proofs.Common.{Bool, inr, inl, ◌≡◌, ℕ, List, [], Option, Some, None, subst, sym}
 use Rattle.std.specs.Prelude.{IfSome, flat_map}
 use Rattle.ht_outside.specs.Files.{Files, bytes_of}
 use Rattle.event_list.specs.declared.trace.MergedTrace.{MergedTrace}

@@ -1,5 +1,5 @@
 -- What each command makes of its files.
-use Rattle.std.specs.Prelude.{◌≡◌, ℕ, ◌≤◌, List, [], ◌∷◌, flat_map, length, map}
+use Rattle.std.specs.Prelude.{◌≡◌, ℕ, ◌≤◌, List, [], flat_map, length, map}
 use Rattle.event_list.specs.Lines.{IsEventList}
 use Rattle.event_list.specs.Names.{lines_of, names_at}
 use Rattle.event_list.specs.Written.{parsed_lines_of}
