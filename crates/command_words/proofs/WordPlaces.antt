@@ -8,7 +8,7 @@ use Rattle.command_words.specs.Words.{AreRanges, IsDrift, IsCheckCommand, IsComm
 use Rattle.command_words.specs.declared.command.Command.{Command}
 use Rattle.command_words.specs.declared.words.WordsError.{WordsError}
 use Rattle.command_words.specs.declared.command.Command.TheVariants.{Plain}
-use Rattle.command_words.specs.declared.command.PlainCommand.TheVariants.{Check, Events, State, Ask}
+use Rattle.command_words.specs.declared.command.PlainCommand.TheVariants.{Check, Report, Events, State, Ask}
 use Rattle.command_words.specs.declared.command.Input.TheVariants as input
 
 module _ {A : Type 0} (text : A → List ℕ) where
@@ -63,11 +63,13 @@ no_time ws rest t same none (Plain (Ask (input.List file) questions once)) h = s
 no_time ws rest t same none (Plain (State (input.Folders folders drift) at)) h = h
 no_time ws rest t same none (Plain (Ask (input.Folders folders drift) questions once)) h = h
 no_time ws rest t same none (Plain (Check folders)) h = h
+no_time ws rest t same none (Plain (Report folders drift)) h = h
 no_time ws rest t same none (Plain (Events folders drift)) h = h
 
 -- words that are neither a command over folders nor another are none
 pub no_command : (ws : List (List ℕ)) → ((folders : List (List ℕ)) → IsCheckCommand ws folders → ⊥) → ((c : Command) → IsOtherCommand ws c → ⊥) → (c : Command) → IsCommand ws c → ⊥
 no_command ws check other (Plain (Check folders)) h = check folders h
+no_command ws check other (Plain (Report folders drift)) h = h
 no_command ws check other (Plain (Events folders drift)) h = other (Plain (Events folders drift)) h
 no_command ws check other (Plain (State (input.List file) at)) h = other (Plain (State (input.List file) at)) h
 no_command ws check other (Plain (State (input.Folders folders drift) at)) h = other (Plain (State (input.Folders folders drift) at)) h
@@ -77,6 +79,7 @@ no_command ws check other (Plain (Ask (input.Folders folders drift) questions on
 -- words of another number than the command's are not it
 pub only_events : (ws : List (List ℕ)) → length ws ≡ 2 → ((folders : List (List ℕ)) (drift : ℕ) → IsEventsCommand ws folders drift → ⊥) → (c : Command) → IsOtherCommand ws c → ⊥
 only_events ws e none (Plain (Check folders)) h = h
+only_events ws e none (Plain (Report folders drift)) h = h
 only_events ws e none (Plain (Events folders drift)) h = none folders drift h
 only_events ws e none (Plain (State (input.List file) at)) h = omega (arith, e, ap length h.words_are)
 only_events ws e none (Plain (State (input.Folders folders drift) at)) h = omega (arith, e, ap length h.words_are)
@@ -85,6 +88,7 @@ only_events ws e none (Plain (Ask (input.Folders folders drift) questions once))
 
 pub only_folder : (ws : List (List ℕ)) → length ws ≡ 4 → ((c : Command) → IsFolderCommand ws c → ⊥) → (c : Command) → IsOtherCommand ws c → ⊥
 only_folder ws e none (Plain (Check folders)) h = h
+only_folder ws e none (Plain (Report folders drift)) h = h
 only_folder ws e none (Plain (Events folders drift)) h = omega (arith, e, ap length h.words_are)
 only_folder ws e none (Plain (State (input.List file) at)) h = omega (arith, e, ap length h.words_are)
 only_folder ws e none (Plain (State (input.Folders folders drift) at)) h = none (Plain (State (input.Folders folders drift) at)) h
@@ -93,6 +97,7 @@ only_folder ws e none (Plain (Ask (input.Folders folders drift) questions once))
 
 pub only_list : (ws : List (List ℕ)) → length ws ≢ 2 → length ws ≢ 4 → ((c : Command) → IsListCommand ws c → ⊥) → (c : Command) → IsOtherCommand ws c → ⊥
 only_list ws two four none (Plain (Check folders)) h = h
+only_list ws two four none (Plain (Report folders drift)) h = h
 only_list ws two four none (Plain (Events folders drift)) h = two (ap length h.words_are)
 only_list ws two four none (Plain (State (input.List file) at)) h = none (Plain (State (input.List file) at)) h
 only_list ws two four none (Plain (State (input.Folders folders drift) at)) h = four (ap length h.words_are)
@@ -102,6 +107,7 @@ only_list ws two four none (Plain (Ask (input.Folders folders drift) questions o
 -- words that begin with the name of the command over folders are none other
 pub only_check : (ws words : List (List ℕ)) → words ≡ codes "check" ∷ ws → ((0 < length ws) × IsTrue (are_file_words ws) → ⊥) → (c : Command) → IsCommand words c → ⊥
 only_check ws words e bad (Plain (Check folders)) h = let same : ws ≡ folders = ap (drop 1) (sym e ∙ h.words_are) in bad (subst (λ l. (0 < length l) × IsTrue (are_file_words l)) (sym same) (h.some, h.are_folders))
+only_check ws words e bad (Plain (Report folders drift)) h = h
 only_check ws words e bad (Plain (Events folders drift)) h = check_is_not_events _ _ (sym e ∙ h.words_are)
 only_check ws words e bad (Plain (State (input.List file) at)) h = check_is_not_state _ _ (sym e ∙ h.words_are)
 only_check ws words e bad (Plain (State (input.Folders folders drift) at)) h = check_is_not_state _ _ (sym e ∙ h.words_are)
@@ -118,6 +124,7 @@ drift_of drift e = (omega (arith, e), omega (arith, e))
 
 pub in_range : (ws : List (List ℕ)) (c : Command) → IsCommand ws c → AreRanges c
 in_range ws (Plain (Check folders)) h = tt
+in_range ws (Plain (Report folders drift)) h = absurd h
 in_range ws (Plain (Events folders drift)) h = drift_of drift h.drift_is
 in_range ws (Plain (State (input.List file) at)) h = tt
 in_range ws (Plain (State (input.Folders folders drift) at)) h = drift_of drift h.drift_is
@@ -138,6 +145,13 @@ unlike : (ws us vs : List (List ℕ)) → ws ≡ us → ws ≡ vs → length us 
 unlike ws us vs e f other = other (ap length (sym e ∙ f))
 
 pub same_command : (ws : List (List ℕ)) (c d : Command) → IsCommand ws c → IsCommand ws d → c ≡ d
+same_command ws (Plain (Report folders drift)) d h g = absurd h
+same_command ws (Plain (Check folders)) (Plain (Report others rate)) h g = absurd g
+same_command ws (Plain (Events folders drift)) (Plain (Report others rate)) h g = absurd g
+same_command ws (Plain (State (input.List file) at)) (Plain (Report others rate)) h g = absurd g
+same_command ws (Plain (State (input.Folders folders drift) at)) (Plain (Report others rate)) h g = absurd g
+same_command ws (Plain (Ask (input.List file) questions once)) (Plain (Report others rate)) h g = absurd g
+same_command ws (Plain (Ask (input.Folders folders drift) questions once)) (Plain (Report others rate)) h g = absurd g
 same_command ws (Plain (Check folders)) (Plain (Check others)) h g =
     let same : folders ≡ others = ap (drop 1) (sym h.words_are ∙ g.words_are) in
     λ i. Plain (Check (same i))

@@ -4,7 +4,7 @@ use Rattle.std.specs.Fmt.{decimal}
 use Rattle.command_words.specs.declared.command.Command.{Command}
 use Rattle.command_words.specs.declared.command.Command.TheVariants.{Plain}
 use Rattle.command_words.specs.declared.command.PlainCommand.{PlainCommand}
-use Rattle.command_words.specs.declared.command.PlainCommand.TheVariants.{Check, Events, State, Ask}
+use Rattle.command_words.specs.declared.command.PlainCommand.TheVariants.{Check, Report, Events, State, Ask}
 use Rattle.command_words.specs.declared.command.Input.{Input}
 use Rattle.command_words.specs.declared.command.Input.TheVariants as input
 
@@ -69,6 +69,7 @@ pub record IsFolderAsk (words folders : List (List ℕ)) (drift : ℕ) (question
 -- the words are this command
 abbrev pub IsCommand : List (List ℕ) → Command → Type 0
 IsCommand words (Plain (Check folders)) = IsCheckCommand words folders
+IsCommand words (Plain (Report folders drift)) = ⊥
 IsCommand words (Plain (Events folders drift)) = IsEventsCommand words folders drift
 IsCommand words (Plain (State (input.List file) at)) = IsStateCommand words file at
 IsCommand words (Plain (State (input.Folders folders drift) at)) = IsFolderState words folders drift at
@@ -78,6 +79,7 @@ IsCommand words (Plain (Ask (input.Folders folders drift) questions once)) = IsF
 -- the words are this command, and it isn't over several folders
 abbrev pub IsOtherCommand : List (List ℕ) → Command → Type 0
 IsOtherCommand words (Plain (Check folders)) = ⊥
+IsOtherCommand words (Plain (Report folders drift)) = ⊥
 IsOtherCommand words (Plain (Events folders drift)) = IsEventsCommand words folders drift
 IsOtherCommand words (Plain (State (input.List file) at)) = IsStateCommand words file at
 IsOtherCommand words (Plain (State (input.Folders folders drift) at)) = IsFolderState words folders drift at
@@ -108,6 +110,7 @@ InputHasRange (input.Folders folders drift) = IsDrift drift
 -- the drift of a command over folders is one
 abbrev pub HasRanges : PlainCommand → Type 0
 HasRanges (Check folders) = Unit {0}
+HasRanges (Report folders drift) = IsDrift drift
 HasRanges (Events folders drift) = IsDrift drift
 HasRanges (State source at) = InputHasRange source
 HasRanges (Ask source questions once) = InputHasRange source

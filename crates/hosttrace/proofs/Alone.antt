@@ -1,9 +1,8 @@
 -- The merge of one folder alone is its host's own list.
-use Rattle.std.proofs.Common.{◌≡◌, ◌∙◌, ◌<◌, ◌≤◌, ◌+◌, ◌*◌, ℕ, zero, suc, List, [], ◌∷◌, ◌++◌, length, map, slice_get, Some, refl, sym, ap, subst, arith, append-nil}
+use Rattle.std.proofs.Common.{◌≡◌, ◌∙◌, ℕ, List, [], ◌∷◌, ◌++◌, length, map, refl, sym, subst, arith, append-nil}
 use Rattle.std.specs.Prelude.{flat_map}
 use Rattle.ht_outside.specs.Files.{Files}
 use Rattle.trace_types.specs.declared.host.HostEvents.{HostEvents}
-use Rattle.trace_types.specs.declared.event.Merged.{Merged}
 use Rattle.clock_fraction.specs.declared.pair_map.PairMap.{PairMap}
 use Rattle.hull_lines.specs.declared.outcome.Fit.{Fit}
 use Rattle.host_tree.specs.Forest.{AreParents, IsPlaced, IsUsablePair, Leads}

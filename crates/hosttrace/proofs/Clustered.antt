@@ -1,8 +1,8 @@
 -- The hosts of folders, on one clock.
-use Rattle.std.proofs.Common.{◌≡◌, ◌∙◌, ◌<◌, inl, inr, ℕ, zero, suc, ◌+◌, ◌≤◌, List, [], ◌∷◌, length, map, slice_get, Option, Some, None, refl, sym, ap, ap₂, subst, arith}
+use Rattle.std.proofs.Common.{All, Bool, Contains, true, false, cond, filter, ◌*◌, ◌^◌, ◌≡◌, ◌∙◌, ◌<◌, inl, inr, ℕ, zero, suc, ◌+◌, ◌≤◌, List, [], ◌∷◌, length, map, slice_get, Option, Some, None, refl, sym, ap, ap₂, subst, arith}
 use Rattle.std.specs.Prelude.{IfSome}
 use Rattle.ht_outside.specs.Files.{Files}
-use Rattle.type_scope.specs.Traces.{Trace, trace}
+use Rattle.type_scope.specs.Traces.{trace}
 use Rattle.trace_types.specs.declared.host.HostEvents.{HostEvents}
 use Rattle.decode_pool.specs.Limits.{AreHosts}
 use Rattle.decode_pool.specs.declared.hosts.HostFiles.{HostFiles}
@@ -16,10 +16,18 @@ use Rattle.host_sync.proofs.ReadAgain.{synced_read_again}
 use Rattle.host_sync.proofs.Syncable.{decoded_are_syncable}
 use Rattle.host_sync.specs.Laws.{FilesAreNumbered, names_of_hosts}
 use Rattle.host_sync.specs.Synced.{AreSyncable, IsSynced, Synced}
-use Rattle.hosttrace.specs.Clusters.{AreSyncedTraces, IsCluster, IsWithinLimits, SendsFirst}
+use Rattle.std.specs.List.{range_with_len}
+use Rattle.host_tree.specs.Points.{IsBetween}
+use Rattle.host_merge.proofs.Theirs.{between}
+use Rattle.host_merge.specs.Placed.{inverted_among, is_inverted}
+use Rattle.host_merge.specs.declared.placed.Placed.{Placed}
+use Rattle.host_sync.proofs.Totals.{few_messages}
+use Rattle.report_views.specs.Report.{report_text}
+use Rattle.hosttrace.proofs.OneOrder.{In, in_from}
+use Rattle.hosttrace.specs.Clusters.{AreSyncedTraces, IsCluster, IsSyncedCluster, IsWithinLimits, NoneInvertedInTrees, SendsFirst}
 use Rattle.hosttrace.specs.Folders.{MAX_HOSTS, metadata_of}
 use Rattle.hosttrace.specs.Hosts.{AreTraces}
-use Rattle.hosttrace.specs.Means.{IsEventsOutput}
+use Rattle.hosttrace.specs.Means.{IsEventsOutput, IsReportOutput}
 use Rattle.hosttrace.specs.Read.{AreFolderFiles}
 use Rattle.hosttrace.specs.Refusals.{ClusterRefuses, HostsRefuse, LimitsRefuse, ReadingRefuses, TracesRefuse}
 use Rattle.hosttrace.specs.Streams.{AreFolders, AreHostsFrom, AreHostsOf}
@@ -61,6 +69,28 @@ traces_of files place before (dir ∷ dirs) (h ∷ hosts) are = (are.0.declares,
 
 -- ---- what holds of them on one clock
 
+placed_at : (ps : List Placed) (k : ℕ) → k < length ps → (p : Placed) × (slice_get ps k ≡ Some p)
+placed_at [] k lt = absurd (omega (arith, lt))
+placed_at (p ∷ ps) zero lt = (p, refl)
+placed_at (p ∷ ps) (suc k) lt = placed_at ps k (omega (arith, lt))
+
+filter_in : (p : ℕ → Bool) (xs : List ℕ) (x : ℕ) → In x (filter p xs) → In x xs
+filter_in p [] x h = absurd h
+filter_in p (y ∷ ys) x h = by (p y) refl h (filter_in p ys x)
+  where
+    by : (b : Bool) → p y ≡ b → In x (cond b (y ∷ filter p ys) (filter p ys)) → (In x (filter p ys) → In x ys) → In x (y ∷ ys)
+    by true e (inl is) rest = inl is
+    by true e (inr g) rest = inr (rest g)
+    by false e g rest = inr (rest g)
+
+in_range : (start count k : ℕ) → In k (range_with_len start count) → k < start + count
+in_range start zero k h = absurd h
+in_range start (suc count) k (inl is) = omega (arith, is)
+in_range start (suc count) k (inr h) = let next = in_range (start + 1) count k h in omega (arith, next)
+
+inverted_within : (ps : List Placed) (k : ℕ) → Contains (inverted_among ps) k → k < length ps
+inverted_within ps k h = let lt = in_range 0 (length ps) k (filter_in (λ n. is_inverted (slice_get ps n)) (range_with_len 0 (length ps)) k (in_from (inverted_among ps) k h)) in omega (arith, lt)
+
 module _ (files : Files) (dirs : List (List ℕ)) (drift : ℕ) (found : List HostEvents) (s : Synced) (t : AreSyncedTraces files dirs drift found s) where
   few_hosts : length t.hosts ≤ MAX_HOSTS
   few_hosts = subst (λ n. n ≤ MAX_HOSTS) (sym (as_many files 0 0 dirs t.hosts t.are_hosts)) t.few
@@ -73,6 +103,11 @@ module _ (files : Files) (dirs : List (List ℕ)) (drift : ℕ) (found : List Ho
 
   pub sends_first : SendsFirst s
   sends_first k m p at there pair = (synced_sends_first found drift s can_sync t.synced k m p at there pair).0
+
+  pub none_inverted : NoneInvertedInTrees s
+  none_inverted k m inverted at pair =
+      let p = placed_at s.placed k (inverted_within s.placed k inverted) in
+      (synced_sends_first found drift s can_sync t.synced k m p.0 at p.1 pair).1 inverted
 
   pub reads_again : SpellBytes (names_of_hosts found) s.merged → IsEventList (lines_of (names_of_hosts found) s.merged) (parsed_lines_of (names_of_hosts found) s.merged)
   reads_again bytes = synced_read_again t.hosts found drift s t.decoded (numbered files dirs t.hosts t.are_hosts) few_hosts t.within.events t.synced bytes
@@ -102,6 +137,37 @@ pub is_cluster : (o : Option Files) (dirs : List (List ℕ)) (drift : ℕ) (foun
     → IfSome o (λ files. IsCluster files dirs drift merge)
 is_cluster None dirs drift found s merge h events names = tt
 is_cluster (Some files) dirs drift found s merge h events names = record { found = found; synced = s; traces = h; events = events; names = names }
+
+-- ---- the report
+
+between_hosts : (found : List HostEvents) (drift : ℕ) (s : Synced) → IsSyncedCluster found drift s → All (IsBetween (length found)) s.matched
+between_hosts found drift s h = between found s.matched s.ambiguous h.synced.messages h.can.times h.can.from_one
+
+-- what the report wants of its lists
+pub record CanReport (found : List HostEvents) (s : Synced) : Type 0 where
+  pub few : length found ≤ 64
+  pub square : length s.fits ≡ length found * length found
+  pub goes_between : All (IsBetween (length found)) s.matched
+  pub placed : length s.placed < 2 ^ 32
+
+pub can_report : (found : List HostEvents) (drift : ℕ) (s : Synced) → IsSyncedCluster found drift s → CanReport found s
+can_report found drift s h =
+    let few = few_messages found s.matched s.ambiguous h.can h.synced.messages in
+    let placed = h.synced.places.count in
+    record { few = h.can.few_hosts; square = h.synced.fits_are.count; goes_between = between_hosts found drift s h; placed = omega (arith, few, placed) }
+
+pub report_output : (o : Option Files) (dirs : List (List ℕ)) (drift : ℕ) (found : List HostEvents) (s : Synced) (text : List ℕ) → IfSome o (λ files. AreSyncedTraces files dirs drift found s)
+    → text ≡ report_text found s.matched s.ambiguous s.fits s.parents s.merged s.placed drift → IfSome o (λ files. IsReportOutput files dirs drift text)
+report_output None dirs drift found s text h is = tt
+report_output (Some files) dirs drift found s text h is = record {
+  found = found;
+  synced = s;
+  traces = h;
+  keeps_order = in_order files dirs drift found s h;
+  sends_first = sends_first files dirs drift found s h;
+  inverted = none_inverted files dirs drift found s h;
+  is_text = is;
+}
 
 -- ---- why folders have no merge
 

@@ -10,7 +10,7 @@ use Rattle.history_core.specs.declared.question.Question.{Question}
 use Rattle.command_words.specs.declared.command.Command.{Command}
 use Rattle.command_words.specs.declared.command.Command.TheVariants.{Plain}
 use Rattle.command_words.specs.declared.command.PlainCommand.{PlainCommand}
-use Rattle.command_words.specs.declared.command.PlainCommand.TheVariants.{Check, Events, State, Ask}
+use Rattle.command_words.specs.declared.command.PlainCommand.TheVariants.{Check, Report, Events, State, Ask}
 use Rattle.command_words.specs.declared.command.Input.{Input}
 use Rattle.command_words.specs.declared.command.Input.TheVariants as input
 use Rattle.command_words.proofs.WordPlaces.{same_command}
@@ -19,9 +19,9 @@ use Rattle.hosttrace.specs.Clusters.{IsGoodCluster, IsWithinLimits}
 use Rattle.hosttrace.specs.Folders.{FILES_LIMIT, MAX_HOSTS, METADATA_LIMIT, AreRead, HasFewNames, HasManyNames, IsRead, metadata_of}
 use Rattle.hosttrace.specs.Hosts.{AreTraces}
 use Rattle.hosttrace.specs.Inputs.{IsList, AreAsked}
-use Rattle.hosttrace.specs.Means.{AreChecked, IsGood, IsGoodInput, Refuses}
+use Rattle.hosttrace.specs.Means.{AreChecked, IsGood, IsGoodInput}
 use Rattle.hosttrace.specs.Outcome.{Means, PlainMeans, IsValid, IsFaultless, IsOutcome, IsPlainOutcome}
-use Rattle.hosttrace.specs.Refusals.{CheckRefuses, ClusterRefuses, FoldersRefuse, HostsRefuse, InputRefuses, IsCrowd, LimitsRefuse, ListRefuses, MetadataRefuses, NamesRefuse, QuestionsRefuse, SizeRefuses, StreamRefuses, StreamsRefuse, TracesRefuse}
+use Rattle.hosttrace.specs.Refusals.{CheckRefuses, ClusterRefuses, FoldersRefuse, HostsRefuse, InputRefuses, IsCrowd, LimitsRefuse, ListRefuses, MetadataRefuses, NamesRefuse, QuestionsRefuse, Refuses, SizeRefuses, StreamRefuses, StreamsRefuse, TracesRefuse}
 use Rattle.hosttrace.specs.Seen.{Seen}
 use Rattle.hosttrace.specs.Streams.{AreFolders, AreStreamsRead, StreamFits, folder_size, metadata_size, size_of}
 use Rattle.hosttrace.specs.declared.status.ListFile.TheVariants.{Events as EventsFile, Questions}
@@ -190,6 +190,7 @@ good_input (input.Folders dirs drift) files refusal h g = good_cluster files dir
 
 pub good : (c : PlainCommand) (files : Files) (refusal : Refusal) → Refuses c files refusal → IsGood c files → ⊥
 good (Check folders) files refusal h g = good_check files folders refusal h g
+good (Report folders drift) files refusal h g = good_cluster files folders refusal h g
 good (Events folders drift) files refusal h g = good_cluster files folders refusal h g
 good (State source at) files refusal h g = good_input source files refusal h g
 good (Ask source questions once) files refusal (inl h) g = good_input source files refusal h g.0

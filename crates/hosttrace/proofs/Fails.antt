@@ -1,5 +1,5 @@
 -- Why a call of several steps has no answer: one of its steps has none.
-use Rattle.std.proofs.Common.{◌≡◌, ◌∙◌, ℕ, ◌≤◌, Option, Some, None, refl, subst, arith}
+use Rattle.std.proofs.Common.{◌∙◌, ℕ, Option, Some, None, refl, subst, arith}
 use Rattle.std.specs.Prelude.{IfSome}
 use Rattle.ht_outside.specs.Files.{Files}
 use Rattle.hosttrace.specs.Seen.{FailsBy, FailsOf, OnlyReads, StoreSeen, store_seen}

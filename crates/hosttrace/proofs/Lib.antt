@@ -14,5 +14,6 @@ pub mod Alone
 pub mod OneAsking
 pub mod OneCluster
 pub mod OneSync
+pub mod OneReport
 pub mod OneText
 pub mod Told

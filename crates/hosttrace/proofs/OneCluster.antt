@@ -1,5 +1,5 @@
 -- Folders have one list of hosts, whatever places the types of their traces are kept at, and a drift one merge of them.
-use Rattle.std.proofs.Common.{◌≡◌, ◌∙◌, ◌≤◌, ◌+◌, ℕ, zero, suc, List, [], ◌∷◌, length, map, slice_get, Option, Some, true, AllPairs, slice_index_or, nat_cmp, is_lt, Ordering, Less, Equal, Greater, refl, sym, ap, ap₂, subst, arith}
+use Rattle.std.proofs.Common.{◌≡◌, ◌∙◌, ◌≤◌, ◌+◌, ℕ, List, [], ◌∷◌, length, map, Option, true, AllPairs, slice_index_or, nat_cmp, is_lt, Ordering, Less, Equal, Greater, refl, sym, ap, ap₂, subst}
 use Rattle.std.specs.Prelude.{unwrap_or}
 use Rattle.std.specs.Cmp.Lexicographic.{nat_list_cmp_total, slice_cmp}
 use Rattle.std.specs.Ordering.{ordering_reverse}
@@ -31,7 +31,7 @@ use Rattle.report_views.specs.declared.rows.Row.{Row}
 use Rattle.hosttrace.specs.Clusters.{AreSyncedTraces, IsGoodCluster, IsSameHost}
 use Rattle.hosttrace.specs.Folders.{metadata_of}
 use Rattle.hosttrace.specs.Refusals.{ClusterRefuses}
-use Rattle.hosttrace.specs.Streams.{AreFiles, AreHostsFrom, AreHostsOf, IsHostOf}
+use Rattle.hosttrace.specs.Streams.{AreFiles, AreHostsFrom, IsHostOf}
 use Rattle.host_sync.specs.Synced.{Synced}
 use Rattle.hosttrace.specs.declared.status.Refusal.{Refusal}
 use Rattle.hosttrace.proofs.Clustered.{folders_of, traces_of}

@@ -1,5 +1,5 @@
 -- Hosts that are the same have one answer of synchronization.
-use Rattle.std.proofs.Common.{◌≡◌, ◌≢◌, ◌∙◌, ◌⊎◌, inl, inr, ◌≤◌, ◌<◌, ◌+◌, ◌↔◌, ℕ, zero, suc, List, [], ◌∷◌, ◌++◌, length, map, slice_get, Option, Some, Contains, AllPairs, refl, sym, ap, ap₂, subst, arith}
+use Rattle.std.proofs.Common.{◌≡◌, ◌∙◌, ℕ, zero, suc, List, [], ◌∷◌, ◌++◌, length, map, slice_get, Some, refl, sym, ap, ap₂, subst}
 use Rattle.std.specs.Prelude.{flat_map}
 use Rattle.type_table.specs.SameTrace.{AreBoth}
 use Rattle.trace_types.specs.declared.event.Event.{Event}

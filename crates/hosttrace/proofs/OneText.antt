@@ -1,7 +1,6 @@
 -- A command has one text at most over given files. Where it has one they are good, and nothing refuses them.
-use Rattle.std.proofs.Common.{◌≡◌, ◌∙◌, ℕ, ◌+◌, List, [], ◌∷◌, length, refl, sym, ap, ap₂, subst₂}
+use Rattle.std.proofs.Common.{◌≡◌, ◌∙◌, ℕ, List, [], ◌∷◌, refl, sym, ap, ap₂, subst₂}
 use Rattle.std.specs.Prelude.{flat_map}
-use Rattle.std.specs.List.{AllByRecursion}
 use Rattle.ht_outside.specs.Files.{Files, bytes_of}
 use Rattle.type_scope.specs.Traces.{Trace}
 use Rattle.trace_metadata.proofs.OneTrace.{one_trace}
@@ -14,19 +13,20 @@ use Rattle.report_views.specs.StateText.{IsStateText, row_text}
 use Rattle.command_words.specs.declared.command.Input.{Input}
 use Rattle.command_words.specs.declared.command.Input.TheVariants as input
 use Rattle.command_words.specs.declared.command.PlainCommand.{PlainCommand}
-use Rattle.command_words.specs.declared.command.PlainCommand.TheVariants.{Ask, Check, Events, State}
-use Rattle.trace_types.specs.declared.event.Merged.{Merged}
+use Rattle.command_words.specs.declared.command.PlainCommand.TheVariants.{Ask, Check, Events, Report, State}
 use Rattle.trace_types.specs.declared.host.HostEvents.{HostEvents}
 use Rattle.host_sync.specs.Laws.{IsOneAnswer}
 use Rattle.host_sync.specs.Synced.{Synced}
-use Rattle.hosttrace.specs.Clusters.{AreSyncedTraces, IsCluster}
+use Rattle.hosttrace.specs.Clusters.{AreSyncedTraces, IsCluster, IsInput}
 use Rattle.hosttrace.specs.Hosts.{AreTraces, host_lines}
-use Rattle.hosttrace.specs.Means.{IsAskOutput, IsCheckOutput, IsEventsOutput, IsGood, IsGoodInput, IsInput, IsOutput, IsStateOutput, Refuses}
+use Rattle.hosttrace.specs.Means.{IsAskOutput, IsCheckOutput, IsEventsOutput, IsReportOutput, IsGood, IsGoodInput, IsOutput, IsStateOutput}
+use Rattle.hosttrace.specs.Refusals.{Refuses}
 use Rattle.hosttrace.specs.declared.status.Refusal.{Refusal}
 use Rattle.hosttrace.proofs.Complete.{good}
 use Rattle.hosttrace.proofs.OneAsking.{one_asking}
 use Rattle.hosttrace.proofs.Clustered.{can_sync}
 use Rattle.hosttrace.proofs.OneCluster.{good_traces, one_found, one_listing}
+use Rattle.hosttrace.proofs.OneReport.{one_report}
 use Rattle.hosttrace.proofs.OneSync.{one_synced, same_names}
 
 -- ---- one answer of folders
@@ -46,6 +46,12 @@ one_events_text files dirs drift a b h g =
     let same = one_answer files dirs drift h.found g.found h.synced g.synced h.traces g.traces in
     let names = same_names h.found g.found (one_found files dirs drift drift h.found g.found h.synced g.synced h.traces g.traces) in
     h.is_text ∙ (ap₂ (λ ns es. lines_of (names_at ns) es) names same.merged ∙ sym g.is_text)
+
+one_report_text : (files : Files) (dirs : List (List ℕ)) (drift : ℕ) (a b : List ℕ) → IsReportOutput files dirs drift a → IsReportOutput files dirs drift b → a ≡ b
+one_report_text files dirs drift a b h g =
+    let same = one_answer files dirs drift h.found g.found h.synced g.synced h.traces g.traces in
+    let found = one_found files dirs drift drift h.found g.found h.synced g.synced h.traces g.traces in
+    h.is_text ∙ (one_report drift h.found g.found h.synced g.synced found same ∙ sym g.is_text)
 
 -- ---- one trace of an input
 
@@ -85,6 +91,7 @@ one_check_text files folders a b h g = h.is_text ∙ (ap (host_lines 0) (same_tr
 
 pub one_text : (command : PlainCommand) (files : Files) (a b : List ℕ) → IsOutput command files a → IsOutput command files b → a ≡ b
 one_text (Check folders) files a b h g = one_check_text files folders a b h g
+one_text (Report folders drift) files a b h g = one_report_text files folders drift a b h g
 one_text (Events folders drift) files a b h g = one_events_text files folders drift a b h g
 one_text (State source at) files a b h g = one_state_text files source at a b h g
 one_text (Ask source questions once) files a b h g = one_answers_text files source questions a b h g
@@ -97,6 +104,7 @@ good_input files (input.Folders dirs drift) t h = good_traces files dirs drift h
 
 pub good_files : (command : PlainCommand) (files : Files) (text : List ℕ) → IsOutput command files text → IsGood command files
 good_files (Check folders) files text h = record { few = h.few; are_read = h.are_read; traces = h.traces; are_traces = h.are_traces }
+good_files (Report folders drift) files text h = good_traces files folders drift h.found h.synced h.traces
 good_files (Events folders drift) files text h = good_traces files folders drift h.found h.synced h.traces
 good_files (State source at) files text h = good_input files source h.trace h.is_input
 good_files (Ask source questions once) files text h = (good_input files source h.trace h.is_input, (h.asked, h.are_asked))

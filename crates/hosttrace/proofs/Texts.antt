@@ -1,5 +1,5 @@
 -- The texts of inputs.
-use Rattle.std.proofs.Common.{Bool, inr, inl, ◌≡◌, ◌∙◌, ℕ, List, [], ◌∷◌, Option, Some, None, ap₂, subst, subst₂, sym}
+use Rattle.std.proofs.Common.{Bool, inr, inl, ◌≡◌, ℕ, List, [], Option, Some, None, subst, sym}
 use Rattle.std.specs.Prelude.{IfSome, flat_map}
 use Rattle.ht_outside.specs.Files.{Files, bytes_of}
 use Rattle.event_list.specs.declared.trace.MergedTrace.{MergedTrace}
@@ -9,8 +9,9 @@ use Rattle.kernel_provider.specs.Replay.{state_at}
 use Rattle.report_views.specs.AnswersText.{asked_text}
 use Rattle.report_views.specs.StateText.{IsStateText}
 use Rattle.hosttrace.specs.Inputs.{AreAsked}
-use Rattle.hosttrace.specs.Means.{AskRefuses, Refuses, IsAskOutput, IsInput, IsStateOutput}
-use Rattle.hosttrace.specs.Refusals.{InputRefuses, QuestionsRefuse}
+use Rattle.hosttrace.specs.Means.{IsAskOutput, IsStateOutput}
+use Rattle.hosttrace.specs.Clusters.{IsInput}
+use Rattle.hosttrace.specs.Refusals.{AskRefuses, InputRefuses, QuestionsRefuse, Refuses}
 use Rattle.hosttrace.specs.Seen.{FailsBy, StoreSeen}
 use Rattle.hosttrace.specs.declared.status.Status.{Status}
 use Rattle.command_words.specs.declared.command.PlainCommand.{PlainCommand}

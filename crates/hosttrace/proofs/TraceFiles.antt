@@ -1,18 +1,17 @@
 -- The files of folders, and the hosts that they declare.
-use Rattle.std.proofs.Common.{◌≡◌, inl, inr, ◌∙◌, ℕ, zero, suc, ◌+◌, ◌≤◌, List, [], ◌∷◌, ◌++◌, length, map, Option, Some, None, refl, sym, ap, ap₂, subst, slice_get, arith, zero-add, add_assoc}
+use Rattle.std.proofs.Common.{◌≡◌, inl, inr, ◌∙◌, ℕ, zero, suc, ◌+◌, ◌≤◌, List, [], ◌∷◌, ◌++◌, length, map, Option, Some, None, refl, sym, ap, ap₂, subst, slice_get, arith}
 use Rattle.std.specs.List.{AllByRecursion}
 use Rattle.std.specs.Prelude.{IfSome}
-use Rattle.ht_outside.specs.Files.{Files, ListsNames, bytes_of}
+use Rattle.ht_outside.specs.Files.{Files, ListsNames}
 use Rattle.decode_pool.specs.Limits.{HasSmallFiles}
-use Rattle.decode_pool.specs.declared.files.FileBytes.{FileBytes}
 use Rattle.decode_pool.specs.declared.hosts.HostFiles.{HostFiles}
 use Rattle.host_sync.specs.Laws.{FilesAreNumbered}
 use Rattle.type_scope.specs.Traces.{trace}
 use Rattle.trace_metadata.specs.Files.{IsTrace}
 use Rattle.hosttrace.specs.Folders.{FILES_LIMIT, METADATA_LIMIT, HasFewNames, HasMetadata, IsRead, metadata_of}
 use Rattle.hosttrace.specs.Read.{AreDeclared, AreFolderFiles, HasSmallStreams, IsDeclared, IsFolderFiles}
-use Rattle.hosttrace.specs.Refusals.{FolderRefuses, HostsRefuse, MetadataRefuses, NamesRefuse, SizeRefuses, StreamsRefuse, TraceRefuses}
-use Rattle.hosttrace.specs.Streams.{AreChosen, AreFiles, AreFolders, AreHostsFrom, AreStreamNames, AreStreamsRead, folder_size, metadata_size, streams_size}
+use Rattle.hosttrace.specs.Refusals.{HostsRefuse, MetadataRefuses, NamesRefuse, SizeRefuses, StreamsRefuse, TraceRefuses}
+use Rattle.hosttrace.specs.Streams.{AreChosen, AreFiles, AreFolders, AreHostsFrom, AreStreamNames, AreStreamsRead, metadata_size, streams_size}
 use Rattle.hosttrace.specs.Seen.{FailsOf}
 use Rattle.hosttrace.specs.declared.status.Refusal.{Refusal}
 use Rattle.hosttrace.specs.declared.status.Status.{Status}

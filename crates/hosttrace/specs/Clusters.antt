@@ -1,24 +1,33 @@
--- The traces of folders on one clock (this project's own).
-use Rattle.std.specs.Prelude.{◌≡◌, ℕ, ◌<◌, ◌≤◌, Some, List, length, map, slice_get}
-use Rattle.ht_outside.specs.Files.{Files}
+-- The traces of folders on one clock, and the trace of an input (this project's own).
+use Rattle.std.specs.Prelude.{◌≡◌, ℕ, ◌<◌, ◌≤◌, Contains, Some, List, [], length, map, slice_get}
+use Rattle.ht_outside.specs.Files.{Files, bytes_of}
 use Rattle.type_scope.specs.Traces.{Trace}
 use Rattle.trace_types.specs.declared.limits.TheConstants.{MAX_EVENTS}
 use Rattle.trace_types.specs.declared.host.HostEvents.{HostEvents}
 use Rattle.message_match.specs.declared.message.Message.{Message}
 use Rattle.host_merge.specs.Kept.{IsTreePair}
+use Rattle.host_merge.specs.Placed.{inverted_among}
 use Rattle.host_merge.specs.declared.placed.Placed.{Placed}
-use Rattle.host_sync.specs.Synced.{IsSynced, Synced}
+use Rattle.host_sync.specs.Synced.{AreSyncable, IsSynced, Synced}
 use Rattle.decode_pool.specs.Limits.{AreHosts, MAX_PACKETS, event_count, packet_count}
 use Rattle.decode_pool.specs.declared.hosts.HostFiles.{HostFiles}
 use Rattle.event_list.specs.declared.trace.MergedTrace.{MergedTrace}
+use Rattle.command_words.specs.declared.command.Input.{Input}
+use Rattle.command_words.specs.declared.command.Input.TheVariants as input
 use Rattle.hosttrace.specs.Folders.{MAX_HOSTS, metadata_of}
 use Rattle.hosttrace.specs.Hosts.{AreTraces}
+use Rattle.hosttrace.specs.Inputs.{IsListTrace}
 use Rattle.hosttrace.specs.Streams.{AreFolders, AreHostsOf}
 
 -- the files of all hosts together are within the limits of a run
 pub record IsWithinLimits (hosts : List HostFiles) : Type 0 where
   pub packets : packet_count hosts ≤ MAX_PACKETS
   pub events : event_count hosts ≤ MAX_EVENTS
+
+-- hosts that can be brought to one clock, and what synchronization by this drift gives of them
+pub record IsSyncedCluster (found : List HostEvents) (drift : ℕ) (s : Synced) : Type 0 where
+  pub can : AreSyncable found
+  pub synced : IsSynced found drift s
 
 -- what the folders' hosts hold, within the limits, and what synchronization by this drift, in parts per million, gives of it
 pub record AreSyncedTraces (files : Files) (dirs : List (List ℕ)) (drift : ℕ) (found : List HostEvents) (s : Synced) : Type 0 where
@@ -33,6 +42,10 @@ pub record AreSyncedTraces (files : Files) (dirs : List (List ℕ)) (drift : ℕ
 abbrev pub SendsFirst : Synced → Type 0
 SendsFirst s = (k : ℕ) (m : Message) (p : Placed) → slice_get s.matched k ≡ Some m → slice_get s.placed k ≡ Some p → IsTreePair s.parents m.from m.to → p.send < p.receive
 
+-- no message between a host and its parent is inverted
+abbrev pub NoneInvertedInTrees : Synced → Type 0
+NoneInvertedInTrees s = (k : ℕ) (m : Message) → Contains (inverted_among s.placed) k → slice_get s.matched k ≡ Some m → ¬ IsTreePair s.parents m.from m.to
+
 -- the merge of folders' traces, with the names of each host
 pub record IsCluster (files : Files) (dirs : List (List ℕ)) (drift : ℕ) (trace : MergedTrace) : Type 0 where
   pub found : List HostEvents
@@ -40,6 +53,11 @@ pub record IsCluster (files : Files) (dirs : List (List ℕ)) (drift : ℕ) (tra
   pub traces : AreSyncedTraces files dirs drift found synced
   pub events : trace.events.items ≡ synced.merged
   pub names : trace.names.items ≡ map (λ host. host.names.items) found
+
+-- the trace of an input: what the lines of a list tell, or the merge of folders' hosts
+abbrev pub IsInput : Input → Files → MergedTrace → Type 0
+IsInput (input.List file) files trace = IsListTrace (bytes_of files [] file) trace
+IsInput (input.Folders dirs drift) files trace = IsCluster files dirs drift trace
 
 -- the folders are few, can be read, and declare traces, and their hosts are within the limits
 pub record IsGoodCluster (files : Files) (dirs : List (List ℕ)) : Type 0 where

@@ -1,5 +1,5 @@
 -- What each command makes of its files.
-use Rattle.std.specs.Prelude.{◌≡◌, ◌⊎◌, ℕ, ◌≤◌, List, [], ◌∷◌, flat_map, length, map}
+use Rattle.std.specs.Prelude.{◌≡◌, ℕ, ◌≤◌, List, [], flat_map, length, map}
 use Rattle.event_list.specs.Lines.{IsEventList}
 use Rattle.event_list.specs.Names.{lines_of, names_at}
 use Rattle.event_list.specs.Written.{parsed_lines_of}
@@ -14,17 +14,16 @@ use Rattle.host_sync.specs.Laws.{names_of_hosts}
 use Rattle.host_sync.specs.Synced.{Synced}
 use Rattle.history_core.specs.declared.question.Question.{Question}
 use Rattle.report_views.specs.AnswersText.{asked_text}
+use Rattle.report_views.specs.Report.{report_text}
 use Rattle.report_views.specs.StateText.{IsStateText}
 use Rattle.command_words.specs.declared.command.PlainCommand.{PlainCommand}
-use Rattle.command_words.specs.declared.command.PlainCommand.TheVariants.{Check, Events, State, Ask}
+use Rattle.command_words.specs.declared.command.PlainCommand.TheVariants.{Check, Report, Events, State, Ask}
 use Rattle.command_words.specs.declared.command.Input.{Input}
 use Rattle.command_words.specs.declared.command.Input.TheVariants as input
-use Rattle.hosttrace.specs.Clusters.{AreSyncedTraces, IsCluster, IsGoodCluster, SendsFirst}
+use Rattle.hosttrace.specs.Clusters.{AreSyncedTraces, IsGoodCluster, IsInput, NoneInvertedInTrees, SendsFirst}
 use Rattle.hosttrace.specs.Folders.{MAX_HOSTS, AreRead, metadata_of}
 use Rattle.hosttrace.specs.Hosts.{AreTraces, host_lines}
-use Rattle.hosttrace.specs.Inputs.{IsList, IsListTrace, AreAsked}
-use Rattle.hosttrace.specs.Refusals.{CheckRefuses, ClusterRefuses, InputRefuses, QuestionsRefuse}
-use Rattle.hosttrace.specs.declared.status.Refusal.{Refusal}
+use Rattle.hosttrace.specs.Inputs.{IsList, AreAsked}
 
 -- a line for each folder, with what all bytes of its metadata declare
 pub record IsCheckOutput (files : Files) (folders : List (List ℕ)) (text : List ℕ) : Type 0 where
@@ -41,11 +40,7 @@ pub record AreChecked (files : Files) (folders : List (List ℕ)) : Type 0 where
   pub traces : List Trace
   pub are_traces : AreTraces (map (metadata_of files) folders) traces
 
--- the trace of an input: what the lines of a list tell, or the merge of folders' hosts
-abbrev pub IsInput : Input → Files → MergedTrace → Type 0
-IsInput (input.List file) files trace = IsListTrace (bytes_of files [] file) trace
-IsInput (input.Folders dirs drift) files trace = IsCluster files dirs drift trace
-
+-- an input has a trace
 abbrev pub IsGoodInput : Input → Files → Type 0
 IsGoodInput (input.List file) files = (parsed_lines : List ParsedLine) × IsList (bytes_of files [] file) parsed_lines
 IsGoodInput (input.Folders dirs drift) files = IsGoodCluster files dirs
@@ -59,6 +54,16 @@ pub record IsEventsOutput (files : Files) (dirs : List (List ℕ)) (drift : ℕ)
   pub sends_first : SendsFirst synced
   pub is_text : text ≡ lines_of (names_of_hosts found) synced.merged
   pub is_list : IsEventList text (parsed_lines_of (names_of_hosts found) synced.merged)
+
+-- the report on the folders' hosts: what was read of each, with each refused packet's file, place and cause, how their clocks fit, and which messages are inverted, none of them between a host and its parent; over the merge that the events are listed in
+pub record IsReportOutput (files : Files) (dirs : List (List ℕ)) (drift : ℕ) (text : List ℕ) : Type 0 where
+  pub found : List HostEvents
+  pub synced : Synced
+  pub traces : AreSyncedTraces files dirs drift found synced
+  pub keeps_order : KeepsOrder found synced.merged
+  pub sends_first : SendsFirst synced
+  pub inverted : NoneInvertedInTrees synced
+  pub is_text : text ≡ report_text found synced.matched synced.ambiguous synced.fits synced.parents synced.merged synced.placed drift
 
 -- the text of the state at an instant, of an input
 pub record IsStateOutput (files : Files) (source : Input) (at : ℕ) (text : List ℕ) : Type 0 where
@@ -77,24 +82,15 @@ pub record IsAskOutput (files : Files) (source : Input) (questions text : List �
 -- the text of a command over these files
 abbrev pub IsOutput : PlainCommand → Files → List ℕ → Type 0
 IsOutput (Check folders) files text = IsCheckOutput files folders text
+IsOutput (Report folders drift) files text = IsReportOutput files folders drift text
 IsOutput (Events folders drift) files text = IsEventsOutput files folders drift text
 IsOutput (State source at) files text = IsStateOutput files source at text
 IsOutput (Ask source questions once) files text = IsAskOutput files source questions text
 
--- the input is refused, or after a good one the questions
-abbrev pub AskRefuses : Files → Input → List ℕ → Refusal → Type 0
-AskRefuses files source questions refusal = InputRefuses source files refusal ⊎ (((trace : MergedTrace) × IsInput source files trace) × QuestionsRefuse (bytes_of files [] questions) refusal)
-
--- the files are refused
-abbrev pub Refuses : PlainCommand → Files → Refusal → Type 0
-Refuses (Check folders) = λ files refusal. CheckRefuses files folders refusal
-Refuses (Events folders drift) = λ files refusal. ClusterRefuses files folders refusal
-Refuses (State source at) = λ files refusal. InputRefuses source files refusal
-Refuses (Ask source questions once) = λ files refusal. AskRefuses files source questions refusal
-
 -- the files are good: the command has a text over them
 abbrev pub IsGood : PlainCommand → Files → Type 0
 IsGood (Check folders) files = AreChecked files folders
+IsGood (Report folders drift) files = IsGoodCluster files folders
 IsGood (Events folders drift) files = IsGoodCluster files folders
 IsGood (State source at) files = IsGoodInput source files
 IsGood (Ask source questions once) files = IsGoodInput source files × ((asked : List Question) × AreAsked (bytes_of files [] questions) asked)

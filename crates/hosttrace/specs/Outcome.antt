@@ -4,7 +4,8 @@ use Rattle.std.specs.Io.KnownBytes.{Appends}
 use Rattle.ht_outside.specs.Faults.{HasRisen}
 use Rattle.ht_outside.specs.Files.{Files}
 use Rattle.hosttrace.specs.Seen.{FailsBy, Seen}
-use Rattle.hosttrace.specs.Means.{IsOutput, IsGood, Refuses}
+use Rattle.hosttrace.specs.Means.{IsOutput, IsGood}
+use Rattle.hosttrace.specs.Refusals.{Refuses}
 use Rattle.hosttrace.specs.Writing.{AppendsFront}
 use Rattle.command_words.specs.Words.{IsCommand}
 use Rattle.command_words.specs.declared.command.Command.{Command}

@@ -9,13 +9,17 @@ use Rattle.decode_pool.specs.declared.hosts.HostFiles.{HostFiles}
 use Rattle.event_list.specs.Lines.{IsCrowded, IsEventList, IsFirstBad}
 use Rattle.event_list.specs.declared.parsed_line.ParsedLine.{ParsedLine}
 use Rattle.history_core.specs.declared.question.Question.{Question}
+use Rattle.event_list.specs.declared.trace.MergedTrace.{MergedTrace}
+use Rattle.command_words.specs.declared.command.PlainCommand.{PlainCommand}
+use Rattle.command_words.specs.declared.command.PlainCommand.TheVariants.{Check, Report, Events, State, Ask}
 use Rattle.command_words.specs.declared.command.Input.{Input}
 use Rattle.command_words.specs.declared.command.Input.TheVariants as input
+use Rattle.hosttrace.specs.Clusters.{IsInput}
 use Rattle.hosttrace.specs.Folders.{FILES_LIMIT, MAX_HOSTS, METADATA_LIMIT, AreRead, HasFewNames, HasManyNames, HasMetadata, IsRead, metadata_of}
 use Rattle.hosttrace.specs.Inputs.{LIST_LIMIT}
 use Rattle.hosttrace.specs.Questions.{QUESTION_LIMIT, is_feed, AreQuestions, IsFirstBadQuestion}
 use Rattle.hosttrace.specs.Streams.{AreFolders, AreHostsOf, AreStreamNames, IsFolder, StreamFits, folder_size, metadata_size, size_of}
-use Rattle.hosttrace.specs.declared.status.ListFile.TheVariants.{Events, Questions}
+use Rattle.hosttrace.specs.declared.status.ListFile.TheVariants.{Events as EventsFile, Questions}
 use Rattle.hosttrace.specs.declared.status.Limit.TheVariants as limit
 use Rattle.hosttrace.specs.declared.status.Refusal.{Refusal}
 use Rattle.hosttrace.specs.declared.status.Refusal.TheVariants.{BadList, BadMetadata, NoMetadata, TooLarge, TooManyEvents}
@@ -103,7 +107,7 @@ FileRefuses bytes _ = ⊥
 
 -- an event list is too large, a line is bad, or the lines are too many
 abbrev pub ListRefuses : List ℕ → Refusal → Type 0
-ListRefuses bytes (BadList Events line) = (length bytes ≤ LIST_LIMIT) × ((parsed_lines : List ParsedLine) → ¬ (IsEventList bytes parsed_lines)) × IsFirstBad bytes line
+ListRefuses bytes (BadList EventsFile line) = (length bytes ≤ LIST_LIMIT) × ((parsed_lines : List ParsedLine) → ¬ (IsEventList bytes parsed_lines)) × IsFirstBad bytes line
 ListRefuses bytes TooManyEvents = (length bytes ≤ LIST_LIMIT) × IsCrowded bytes × ((parsed_lines : List ParsedLine) → IsEventList bytes parsed_lines → MAX_EVENTS < length parsed_lines)
 ListRefuses bytes (TooLarge limit.File) = LIST_LIMIT < length bytes
 ListRefuses bytes _ = ⊥
@@ -127,7 +131,7 @@ CheckRefuses files dirs refusal =
 abbrev pub ReadingRefuses : Files → List (List ℕ) → Refusal → Type 0
 ReadingRefuses files dirs refusal = TracesRefuse files 0 0 dirs refusal ⊎ (AreFolders files 0 dirs × HostsRefuse 0 (map (metadata_of files) dirs) refusal)
 
--- `events`, and `state` and `ask` over folders: the folders are too many, or their reading is refused, or, with all read, their hosts hold too much
+-- `report` and `events`, and `state` and `ask` over folders: the folders are too many, or their reading is refused, or, with all read, their hosts hold too much
 abbrev pub ClusterRefuses : Files → List (List ℕ) → Refusal → Type 0
 ClusterRefuses files dirs refusal =
     IsCrowd dirs refusal
@@ -139,3 +143,15 @@ ClusterRefuses files dirs refusal =
 abbrev pub InputRefuses : Input → Files → Refusal → Type 0
 InputRefuses (input.List file) files refusal = ListRefuses (bytes_of files [] file) refusal
 InputRefuses (input.Folders dirs drift) files refusal = ClusterRefuses files dirs refusal
+
+-- `ask`: the input, or after a good one the questions
+abbrev pub AskRefuses : Files → Input → List ℕ → Refusal → Type 0
+AskRefuses files source questions refusal = InputRefuses source files refusal ⊎ (((trace : MergedTrace) × IsInput source files trace) × QuestionsRefuse (bytes_of files [] questions) refusal)
+
+-- each command
+abbrev pub Refuses : PlainCommand → Files → Refusal → Type 0
+Refuses (Check folders) = λ files refusal. CheckRefuses files folders refusal
+Refuses (Report folders drift) = λ files refusal. ClusterRefuses files folders refusal
+Refuses (Events folders drift) = λ files refusal. ClusterRefuses files folders refusal
+Refuses (State source at) = λ files refusal. InputRefuses source files refusal
+Refuses (Ask source questions once) = λ files refusal. AskRefuses files source questions refusal

@@ -7,7 +7,8 @@ ghost use Rattle.decode_pool.specs.Limits.{AreHosts, HasSmallFiles};
 ghost use Rattle.host_sync.specs.Hosts.{synced_of};
 ghost use Rattle.host_sync.specs.Laws.{FilesAreNumbered};
 ghost use Rattle.host_sync.specs.Synced.{IsSynced};
-ghost use Rattle.hosttrace.specs.Clusters.{AreSyncedTraces, IsCluster, IsWithinLimits};
+ghost use Rattle.hosttrace.specs.Clusters.{AreSyncedTraces, IsCluster, IsSyncedCluster, IsWithinLimits};
+ghost use Rattle.report_views.specs.Report.{report_text};
 ghost use Rattle.hosttrace.specs.Folders.{MAX_HOSTS};
 ghost use Rattle.hosttrace.specs.Read.{AreDeclared, HasSmallStreams};
 ghost use Rattle.hosttrace.specs.Refusals.{ClusterRefuses, HostsRefuse, LimitsRefuse, ReadingRefuses};
@@ -22,6 +23,7 @@ use decode_pool::{DecodeError, HostFiles, decode_all};
 use event_list::{MergedTrace, NameList};
 use host_sync::{SyncedHosts, synchronize};
 use ht_outside::Store;
+use report_views::report;
 use std::alloc::Global;
 use std::thread::Threads;
 use trace_types::{HostEvents, MAX_HOSTS, OutOfMemory, Text};
@@ -64,6 +66,7 @@ pub fn read_cluster<S: Store>(
 ) -> Result<Cluster, Status>
     requires { IsDrift drift }
     ensures cluster { IfOk result (λ c. IfSome (S.holds store.old) (λ files. AreSyncedTraces files dirs.now drift c.hosts.items (synced_of c.synced))) }
+    ensures synced { IfOk result (λ c. IsSyncedCluster c.hosts.items drift (synced_of c.synced)) }
     ensures merge { IfOk result (λ c. IsMerge c.synced.merged.items) }
     ensures fails { IfErr result (λ status. FailsBy (λ files refusal. ClusterRefuses files dirs.now refusal) (store_seen S.holds S.faults store.old store.new) status) }
     ensures reads { OnlyReads (store_seen S.holds S.faults store.old store.new) }
@@ -127,6 +130,7 @@ fn synced_hosts(
     requires few { length hosts.now ≤ MAX_HOSTS }
     requires drift { IsDrift drift }
     ensures cluster { IfOk result (λ c. IsWithinLimits hosts.now × AreHosts hosts.now c.hosts.items × IsSynced c.hosts.items drift (synced_of c.synced)) }
+    ensures synced { IfOk result (λ c. IsSyncedCluster c.hosts.items drift (synced_of c.synced)) }
     ensures merge { IfOk result (λ c. IsMerge c.synced.merged.items) }
     ensures fails { IfErr result (λ status. FailsOf (LimitsRefuse hosts.now) status) }
 {
@@ -140,6 +144,24 @@ fn synced_hosts(
         Ok(synced) => Ok(Cluster { hosts, synced }),
         Err(OutOfMemory) => Err(Status::NoMemory),
     }
+}
+
+/// The report on a cluster.
+pub fn report_of(alloc: Global, cluster: &Cluster, drift: u32) -> Result<Vec<u8>, OutOfMemory>
+    requires { IsSyncedCluster cluster.now.hosts.items drift (synced_of cluster.now.synced) }
+    ensures { IfOk result (λ text. let s = synced_of cluster.now.synced in text.items ≡ report_text cluster.now.hosts.items s.matched s.ambiguous s.fits s.parents s.merged s.placed drift) }
+{
+    let synced = &cluster.synced;
+    report(
+        alloc,
+        &cluster.hosts,
+        &synced.messages,
+        &synced.fits,
+        &synced.forest,
+        &synced.merged,
+        &synced.placed,
+        drift,
+    )
 }
 
 // The merge with the names of each host. The events aren't copied.

@@ -1,13 +1,13 @@
 //! The top calls, and what each command does.
 ghost use Rattle.std.specs.Prelude.{◌≡◌, [], IfOk, IfErr, IfSome, map, string_bytes};
 ghost use Rattle.command_words.specs.Words.{HasRanges, InputHasRange, IsDrift};
-ghost use Rattle.hosttrace.specs.Means.{AskRefuses, IsAskOutput, IsCheckOutput, IsEventsOutput, IsOutput, IsStateOutput, Refuses};
+ghost use Rattle.hosttrace.specs.Means.{IsAskOutput, IsCheckOutput, IsEventsOutput, IsOutput, IsReportOutput, IsStateOutput};
 ghost use Rattle.hosttrace.specs.Outcome.{IsOutcome, IsPlainOutcome, Leaves, PlainLeaves, PlainMeans};
-ghost use Rattle.hosttrace.specs.Refusals.{CheckRefuses, ClusterRefuses, InputRefuses};
+ghost use Rattle.hosttrace.specs.Refusals.{AskRefuses, CheckRefuses, ClusterRefuses, InputRefuses, Refuses};
 ghost use Rattle.hosttrace.specs.Seen.{FailsBy, OnlyReads, not_seen, sink_seen, store_seen};
 ghost use Rattle.hosttrace.specs.Statuses.{IsTold};
 
-use crate::clusters::read_merge;
+use crate::clusters::{read_cluster, read_merge, report_of};
 use crate::folders::{is_crowd, read_folders};
 use crate::hosts::{check_text, read_hosts};
 use crate::inputs::{read_asked, read_input};
@@ -101,6 +101,9 @@ fn text_of<S: Store>(
 {
     match command {
         PlainCommand::Check { folders } => text_of_check(alloc, folders.as_slice(), store),
+        PlainCommand::Report { folders, drift } => {
+            text_of_report(threads, alloc, folders.as_slice(), *drift, store)
+        }
         PlainCommand::Events { folders, drift } => {
             text_of_events(threads, alloc, folders.as_slice(), *drift, store)
         }
@@ -130,6 +133,26 @@ fn text_of_check<S: Store>(
     let files = read_folders(alloc, folders, store)?;
     let metas = read_hosts(alloc, &files)?;
     match check_text(alloc, &metas) {
+        Ok(text) => Ok(text),
+        Err(OutOfMemory) => Err(Status::NoMemory),
+    }
+}
+
+// The report on the hosts of folders.
+fn text_of_report<S: Store>(
+    threads: &(impl Threads + Sync),
+    alloc: Global,
+    folders: &[Text],
+    drift: u32,
+    store: &mut S,
+) -> Result<Vec<u8>, Status>
+    requires { IsDrift drift }
+    ensures text { IfOk result (λ text. IfSome (S.holds store.old) (λ files. IsReportOutput files folders.now drift text.items)) }
+    ensures fails { IfErr result (λ status. FailsBy (λ files refusal. ClusterRefuses files folders.now refusal) (store_seen S.holds S.faults store.old store.new) status) }
+    ensures reads { OnlyReads (store_seen S.holds S.faults store.old store.new) }
+{
+    let cluster = read_cluster(threads, alloc, folders, drift, store)?;
+    match report_of(alloc, &cluster, drift) {
         Ok(text) => Ok(text),
         Err(OutOfMemory) => Err(Status::NoMemory),
     }

@@ -5,7 +5,7 @@ ghost use Rattle.ht_outside.specs.Files.{bytes_of};
 ghost use Rattle.history_core.specs.Agreement.{IsMerge};
 ghost use Rattle.command_words.specs.Words.{InputHasRange};
 ghost use Rattle.hosttrace.specs.Inputs.{LIST_LIMIT, IsListTrace, AreAsked};
-ghost use Rattle.hosttrace.specs.Means.{IsInput};
+ghost use Rattle.hosttrace.specs.Clusters.{IsInput};
 ghost use Rattle.hosttrace.specs.Refusals.{FileRefuses, InputRefuses, ListRefuses, QuestionsRefuse};
 ghost use Rattle.hosttrace.specs.Seen.{FailsBy, OnlyReads, store_seen};
 ghost use Rattle.report_views.specs.Asked.{IsQuestion};

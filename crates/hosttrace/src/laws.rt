@@ -10,9 +10,9 @@ ghost use Rattle.host_sync.specs.Synced.{Synced};
 ghost use Rattle.history_core.specs.declared.question.Question.{Question};
 ghost use Rattle.command_words.specs.declared.command.PlainCommand.{PlainCommand};
 ghost use Rattle.hosttrace.specs.Clusters.{AreSyncedTraces, IsGoodCluster, IsSameHost};
-ghost use Rattle.hosttrace.specs.Means.{IsGood, IsOutput, Refuses};
+ghost use Rattle.hosttrace.specs.Means.{IsGood, IsOutput};
 ghost use Rattle.hosttrace.specs.Questions.{AreQuestions, IsFirstBadQuestion};
-ghost use Rattle.hosttrace.specs.Refusals.{ClusterRefuses};
+ghost use Rattle.hosttrace.specs.Refusals.{ClusterRefuses, Refuses};
 ghost use Rattle.hosttrace.specs.declared.status.Refusal.{Refusal};
 
 /// Folders and a drift have at most one list of hosts and one merge of them, whatever places the types of traces are kept at. Where

@@ -34,13 +34,21 @@ const TWO_PACKETS: &[u8] = b"\xc1\x1f\xfc\xc1\x60\x00\x60\x00\x00\x05\x01\xaa\
 // An entry into a system call at 4, and a thread's end at 6.
 const CALL_AND_EXIT: &[u8] = b"\xc1\x1f\xfc\xc1\x68\x00\x68\x00\x01\x04\x02\x06\x07";
 
-// Three folders of good traces, the last of which has no stream file, one whose metadata is bad, and one that has none.
+// Three packets of 12 bytes, of which the second has an event that is too long for it.
+const THREE_PACKETS: &[u8] = b"\xc1\x1f\xfc\xc1\x60\x00\x60\x00\x00\x05\x01\xaa\
+    \xc1\x1f\xfc\xc1\x60\x00\x60\x00\x00\x05\x02\xaa\
+    \xc1\x1f\xfc\xc1\x60\x00\x60\x00\x00\x07\x01\xaa";
+
+// Four folders of good traces, one of which has a bad packet and one no stream file, one whose metadata is bad, and one
+// that has none.
 fn folders<R: AllocGlobal>(rt: &R) -> Result<MemoryStore, Fail> {
     let mut store = MemoryStore::new(rt.alloc());
     store.put(b"t", b"metadata", METADATA)?;
     store.put(b"t", b"f", TWO_PACKETS)?;
     store.put(b"u", b"metadata", METADATA)?;
     store.put(b"u", b"f", CALL_AND_EXIT)?;
+    store.put(b"r", b"metadata", METADATA)?;
+    store.put(b"r", b"f", THREE_PACKETS)?;
     store.put(b"e", b"metadata", METADATA)?;
     store.put(b"bad", b"metadata", b"/* CTF 1.8 */@")?;
     store.put(b"none", b"f", TWO_PACKETS)?;
@@ -65,6 +73,16 @@ fn events_of<R: AllocGlobal>(rt: &R, dirs: &[&str]) -> Result<PlainCommand, Fail
     ensures { IfOk result HasRanges }
 {
     Ok(PlainCommand::Events {
+        folders: texts(rt, dirs)?,
+        drift: 1_000,
+    })
+}
+
+// The report on folders.
+fn report_of<R: AllocGlobal>(rt: &R, dirs: &[&str]) -> Result<PlainCommand, Fail>
+    ensures { IfOk result HasRanges }
+{
+    Ok(PlainCommand::Report {
         folders: texts(rt, dirs)?,
         drift: 1_000,
     })
@@ -175,6 +193,30 @@ fn a_state_over_two_hosts(rt: HostRuntime) -> Result<(), Fail> {
         &rt,
         &PlainCommand::State { input, at: 1_006 },
         "h1/Thread/7/Status status ended\n",
+    )
+}
+
+#[test]
+fn a_report_on_two_hosts(rt: HostRuntime) -> Result<(), Fail> {
+    prints(
+        &rt,
+        &report_of(&rt, &["r", "u"])?,
+        "hosttrace report 1\n\
+        drift 1000\n\
+        host 0 % events 2 packets 2 refused 1 incomplete 0\n\
+        host 1 % events 2 packets 1 refused 0 incomplete 0\n\
+        refused 0 f 12 ShortContent\n\
+        messages matched 0 ambiguous 0\n\
+        tree 0 root\n\
+        tree 1 root\n\
+        inverted 0\n\
+        window 1004 1007\n\
+        end\n",
+    )?;
+    refused(
+        &rt,
+        &report_of(&rt, &["t", "bad"])?,
+        "host 1: metadata byte 13: no token\n",
     )
 }
 

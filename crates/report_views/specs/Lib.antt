@@ -3,3 +3,4 @@ pub mod Rows
 pub mod Values
 pub mod StateText
 pub mod AnswersText
+pub mod Report

@@ -3,11 +3,16 @@
 
 mod answers;
 mod call_name;
+mod cause_word;
+mod clock_lines;
 mod events;
+mod host_report;
+mod marks;
 mod rows;
 mod state;
 mod value_text;
 
 pub use answers::answers_text;
 pub use events::events_text;
+pub use host_report::report;
 pub use state::state_text;

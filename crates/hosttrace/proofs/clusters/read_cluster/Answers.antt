@@ -5,7 +5,7 @@ use Rattle.hosttrace.specs.Folders.{MAX_HOSTS}
 use Rattle.hosttrace.specs.Refusals.{ClusterRefuses}
 use Rattle.hosttrace.specs.Seen.{store_seen}
 use Rattle.hosttrace.specs.Streams.{AreHostsOf}
-use Rattle.hosttrace.proofs.Clustered.{crowd_refused, limits_refused, reading_refused, synced_traces}
+use Rattle.hosttrace.proofs.Clustered.{limits_refused, reading_refused, synced_traces}
 use Rattle.hosttrace.proofs.Fails.{fails_at, fails_of}
 use Rattle.hosttrace.proofs.clusters.read_cluster.Goals as goal
 

@@ -1,4 +1,4 @@
-use Rattle.std.proofs.Common.{◌≡◌, ◌≤◌, ◌∙◌, length, subst, sym, rules}
+use Rattle.std.proofs.Common.{◌≤◌, ◌∙◌, subst, sym, rules}
 use Rattle.std.proofs.lemmas.Result.{IfErr-weaker, IfOk-weaker}
 use Rattle.hosttrace.specs.Folders.{MAX_HOSTS}
 use Rattle.hosttrace.specs.Refusals.{ReadingRefuses}

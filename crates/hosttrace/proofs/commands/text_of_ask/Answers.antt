@@ -2,7 +2,7 @@ use Rattle.std.proofs.Common.{[], rules}
 use Rattle.report_views.proofs.AnswerLines.{all_timely}
 use Rattle.ht_outside.specs.Files.{bytes_of}
 use Rattle.hosttrace.specs.Inputs.{AreAsked}
-use Rattle.hosttrace.specs.Means.{AskRefuses}
+use Rattle.hosttrace.specs.Refusals.{AskRefuses}
 use Rattle.hosttrace.proofs.Fails.{fails_at, fails_by, known_before}
 use Rattle.hosttrace.proofs.Texts.{ask_output, asked_refused, input_refused}
 use Rattle.hosttrace.proofs.commands.text_of_ask.Goals as goal

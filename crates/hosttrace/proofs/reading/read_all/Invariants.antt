@@ -1,4 +1,4 @@
-use Rattle.std.proofs.Common.{◌≡◌, ◌+◌, ◌-◌, ◌≤◌, IfSome, length}
+use Rattle.std.proofs.Common.{◌+◌, ◌-◌, ◌≤◌, IfSome, length}
 use Rattle.ht_outside.specs.Files.{bytes_of}
 use Rattle.hosttrace.specs.Seen.{OnlyReads, store_seen}
 use Rattle.hosttrace.proofs.Parts.{IsFront}

@@ -1,4 +1,4 @@
-use Rattle.std.proofs.Common.{◌≡◌, ◌≤◌, IfSome}
+use Rattle.std.proofs.Common.{◌≤◌, IfSome}
 use Rattle.std.specs.List.{AllByRecursion}
 use Rattle.decode_pool.specs.Hosts.{IsSmall}
 use Rattle.hosttrace.specs.Folders.{FILES_LIMIT}

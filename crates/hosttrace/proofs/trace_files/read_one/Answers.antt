@@ -1,7 +1,7 @@
-use Rattle.std.proofs.Common.{◌≡◌, ◌+◌, length, rules}
+use Rattle.std.proofs.Common.{rules}
 use Rattle.hosttrace.specs.Refusals.{TraceRefuses}
-use Rattle.hosttrace.proofs.Fails.{fails_at, fails_by, known_before, reads_on}
-use Rattle.hosttrace.proofs.TraceFiles.{folder_files, known, names_refused, size_refused, streams_refused}
+use Rattle.hosttrace.proofs.Fails.{fails_at, fails_by}
+use Rattle.hosttrace.proofs.TraceFiles.{names_refused, size_refused}
 use Rattle.hosttrace.proofs.trace_files.read_one.Goals as goal
 
 pub returns-in_err-names-clause-fails : goal.returns-in_err-names-clause-fails

@@ -1,0 +1,7 @@
+use Rattle.std.proofs.Common.{◌≡◌, ◌++◌, take}
+use Rattle.std.specs.Prelude.{flat_map}
+use Rattle.report_views.specs.Report.{lost_line}
+use Rattle.report_views.proofs.host_report.write_lost.Given as goal
+
+abbrev pub invariant-loop-host : goal.invariant-loop-host
+invariant-loop-host l = l.out.items ≡ l.initial.out.items ++ flat_map lost_line (take l.host-index l.hosts)
