@@ -6,3 +6,4 @@ pub mod CallNames
 pub mod ReportLines
 pub mod MarkCounts
 pub mod MessageCounts
+pub mod SameReports

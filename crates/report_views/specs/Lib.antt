@@ -4,3 +4,4 @@ pub mod Values
 pub mod StateText
 pub mod AnswersText
 pub mod Report
+pub mod SameReport

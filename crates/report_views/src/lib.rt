@@ -7,6 +7,7 @@ mod cause_word;
 mod clock_lines;
 mod events;
 mod host_report;
+pub mod laws;
 mod marks;
 mod rows;
 mod state;

@@ -1,0 +1,7 @@
+//! Tests of the report on several hosts.
+#![tactic(auto)]
+
+#[cfg(test)]
+mod answers;
+#[cfg(test)]
+mod texts;
