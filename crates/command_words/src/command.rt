@@ -7,21 +7,39 @@ use trace_types::Text;
 pub enum Input {
     /// An event list in this file.
     List(Text),
-    /// The trace in this folder, of host 0.
-    Folder(Text),
+    /// The traces in these folders, on one clock, by a drift in parts per million from 1 to 10,000.
+    Folders { dirs: Items<Text>, drift: u32 },
 }
 
 /// A command that runs on one thread.
 #[derive(Debug, Drop)]
 pub enum PlainCommand {
     /// What the metadata of these folders declares, each of one host.
-    Check { folders: Items<Text> },
-    /// The merged events of a folder.
-    Events { folder: Text },
+    Check {
+        folders: Items<Text>,
+    },
+    /// The views of the merged events of folders, by a drift in parts per million from 1 to 10,000.
+    Report {
+        folders: Items<Text>,
+        drift: u32,
+    },
+    /// The merged events of folders, by a drift in parts per million from 1 to 10,000.
+    Events {
+        folders: Items<Text>,
+        drift: u32,
+    },
     /// The state at an instant, in ns.
-    State { input: Input, at: u64 },
-    /// The answers to the questions of a file.
-    Ask { input: Input, questions: Text },
+    State {
+        input: Input,
+        at: u64,
+    },
+    /// The answers to the questions of a file. With `once` all events are taken in before the first
+    /// question.
+    Ask {
+        input: Input,
+        questions: Text,
+        once: bool,
+    },
 }
 
 /// A command.
