@@ -1,1 +1,4 @@
+pub mod OptionNames
+pub mod Parts
+pub mod Shapes
 pub mod Words

@@ -1,6 +1,7 @@
 -- The command set (this project's own).
-use Rattle.std.specs.Prelude.{◌≡◌, ℕ, ◌^◌, ◌<◌, ◌≤◌, ◌==◌, ◌&&◌, Bool, true, false, not, IsTrue, List, [], ◌∷◌, length, codes}
+use Rattle.std.specs.Prelude.{◌≡◌, ◌≢◌, ℕ, ◌^◌, ◌<◌, ◌≤◌, Bool, true, false, List, [], ◌∷◌, Option, Some, None, is_some, length, codes}
 use Rattle.std.specs.Fmt.{decimal}
+use Rattle.command_words.specs.Shapes.{Gives, Shape}
 use Rattle.command_words.specs.declared.command.Command.{Command}
 use Rattle.command_words.specs.declared.command.Command.TheVariants.{Plain}
 use Rattle.command_words.specs.declared.command.PlainCommand.{PlainCommand}
@@ -8,106 +9,111 @@ use Rattle.command_words.specs.declared.command.PlainCommand.TheVariants.{Check,
 use Rattle.command_words.specs.declared.command.Input.{Input}
 use Rattle.command_words.specs.declared.command.Input.TheVariants as input
 
--- a word that can name a file or a folder: it isn't empty and doesn't begin with a minus sign
-abbrev pub is_file_word : List ℕ → Bool
-is_file_word [] = false
-is_file_word (b ∷ bs) = not (b == 45)
+-- whether no word is empty (this project's own)
+abbrev pub are_names : List (List ℕ) → Bool
+are_names [] = true
+are_names ([] ∷ ws) = false
+are_names ((b ∷ bs) ∷ ws) = are_names ws
 
-abbrev pub IsFileWord : List ℕ → Type 0
-IsFileWord word = IsTrue (is_file_word word)
+-- one or more folders (this project's own)
+abbrev pub AreFolders : List (List ℕ) → Type 0
+AreFolders folders = (0 < length folders) × (are_names folders ≡ true)
 
-abbrev pub are_file_words : List (List ℕ) → Bool
-are_file_words [] = true
-are_file_words (w ∷ ws) = is_file_word w && are_file_words ws
-
--- `check FOLDER..`, with at least one folder
-pub record IsCheckCommand (words folders : List (List ℕ)) : Type 0 where
-  pub words_are : words ≡ codes "check" ∷ folders
-  pub some : 0 < length folders
-  pub are_folders : IsTrue (are_file_words folders)
-
--- `state --at T --list FILE`, with T from 0 to 2^62 - 1
-pub record IsStateCommand (words : List (List ℕ)) (file : List ℕ) (at : ℕ) : Type 0 where
-  pub words_are : words ≡ codes "state" ∷ codes "--at" ∷ decimal at ∷ codes "--list" ∷ file ∷ []
-  pub at_below : at < 2 ^ 62
-  pub is_file : IsFileWord file
-
--- `ask --questions FILE --list FILE`
-pub record IsAskCommand (words : List (List ℕ)) (file questions : List ℕ) (once : Bool) : Type 0 where
-  pub words_are : words ≡ codes "ask" ∷ codes "--questions" ∷ questions ∷ codes "--list" ∷ file ∷ []
-  pub is_file : IsFileWord file
-  pub are_questions : IsFileWord questions
-  pub once_is : once ≡ false
-
--- `events FOLDER`, by a drift of 1,000
-pub record IsEventsCommand (words folders : List (List ℕ)) (drift : ℕ) : Type 0 where
-  pub folder : List ℕ
-  pub words_are : words ≡ codes "events" ∷ folder ∷ []
-  pub is_folder : IsFileWord folder
-  pub folders_are : folders ≡ folder ∷ []
-  pub drift_is : drift ≡ 1000
-
--- `state --at T FOLDER`, with T from 0 to 2^62 - 1
-pub record IsFolderState (words folders : List (List ℕ)) (drift at : ℕ) : Type 0 where
-  pub folder : List ℕ
-  pub words_are : words ≡ codes "state" ∷ codes "--at" ∷ decimal at ∷ folder ∷ []
-  pub at_below : at < 2 ^ 62
-  pub is_folder : IsFileWord folder
-  pub folders_are : folders ≡ folder ∷ []
-  pub drift_is : drift ≡ 1000
-
--- `ask --questions FILE FOLDER`
-pub record IsFolderAsk (words folders : List (List ℕ)) (drift : ℕ) (questions : List ℕ) (once : Bool) : Type 0 where
-  pub folder : List ℕ
-  pub words_are : words ≡ codes "ask" ∷ codes "--questions" ∷ questions ∷ folder ∷ []
-  pub is_folder : IsFileWord folder
-  pub are_questions : IsFileWord questions
-  pub folders_are : folders ≡ folder ∷ []
-  pub drift_is : drift ≡ 1000
-  pub once_is : once ≡ false
-
--- the words are this command
-abbrev pub IsCommand : List (List ℕ) → Command → Type 0
-IsCommand words (Plain (Check folders)) = IsCheckCommand words folders
-IsCommand words (Plain (Report folders drift)) = ⊥
-IsCommand words (Plain (Events folders drift)) = IsEventsCommand words folders drift
-IsCommand words (Plain (State (input.List file) at)) = IsStateCommand words file at
-IsCommand words (Plain (State (input.Folders folders drift) at)) = IsFolderState words folders drift at
-IsCommand words (Plain (Ask (input.List file) questions once)) = IsAskCommand words file questions once
-IsCommand words (Plain (Ask (input.Folders folders drift) questions once)) = IsFolderAsk words folders drift questions once
-
--- the words are this command, and it isn't over several folders
-abbrev pub IsOtherCommand : List (List ℕ) → Command → Type 0
-IsOtherCommand words (Plain (Check folders)) = ⊥
-IsOtherCommand words (Plain (Report folders drift)) = ⊥
-IsOtherCommand words (Plain (Events folders drift)) = IsEventsCommand words folders drift
-IsOtherCommand words (Plain (State (input.List file) at)) = IsStateCommand words file at
-IsOtherCommand words (Plain (State (input.Folders folders drift) at)) = IsFolderState words folders drift at
-IsOtherCommand words (Plain (Ask (input.List file) questions once)) = IsAskCommand words file questions once
-IsOtherCommand words (Plain (Ask (input.Folders folders drift) questions once)) = IsFolderAsk words folders drift questions once
-
--- the words are this command over an event list
-abbrev pub IsListCommand : List (List ℕ) → Command → Type 0
-IsListCommand words (Plain (State (input.List file) at)) = IsStateCommand words file at
-IsListCommand words (Plain (Ask (input.List file) questions once)) = IsAskCommand words file questions once
-IsListCommand words _ = ⊥
-
--- the words are this command over the trace of a folder
-abbrev pub IsFolderCommand : List (List ℕ) → Command → Type 0
-IsFolderCommand words (Plain (State (input.Folders folders drift) at)) = IsFolderState words folders drift at
-IsFolderCommand words (Plain (Ask (input.Folders folders drift) questions once)) = IsFolderAsk words folders drift questions once
-IsFolderCommand words _ = ⊥
-
--- a drift, in parts per million
+-- a drift, in parts per million (this project's own)
 abbrev pub IsDrift : ℕ → Type 0
 IsDrift drift = (1 ≤ drift) × (drift ≤ 10000)
 
--- the drift of an input over folders is one
+-- `--drift`: 1,000 where it is absent (this project's own)
+abbrev pub GivesDrift : Option (List ℕ) → ℕ → Type 0
+GivesDrift None drift = drift ≡ 1000
+GivesDrift (Some text) drift = (text ≡ decimal drift) × IsDrift drift
+
+-- `--workers`: absent, or 0 (this project's own)
+abbrev pub GivesWorkers : Option (List ℕ) → Type 0
+GivesWorkers None = Unit {0}
+GivesWorkers (Some text) = text ≡ decimal 0
+
+-- INPUT is one or more folders, or none beside `--list FILE` without `--drift` (this project's own)
+abbrev pub GivesInput : Shape → List (List ℕ) → Input → Type 0
+GivesInput shape words (input.List file) = (shape.list ≡ Some file) × (file ≢ []) × (words ≡ []) × (shape.drift ≡ None)
+GivesInput shape words (input.Folders folders drift) = (shape.list ≡ None) × (folders ≡ words) × AreFolders words × GivesDrift shape.drift drift
+
+-- none of the options of `ask` is given but INPUT's (this project's own)
+abbrev pub IsUnasked : Shape → Type 0
+IsUnasked shape = (shape.once ≡ None) × (shape.questions ≡ None) × (shape.workers ≡ None)
+
+-- none but `--drift` is given (this project's own)
+abbrev pub IsBare : Shape → Type 0
+IsBare shape = (shape.at ≡ None) × (shape.list ≡ None) × IsUnasked shape
+
+-- `check`, which has no options (this project's own)
+pub record IsCheck (shape : Shape) (words folders : List (List ℕ)) : Type 0 where
+  pub folders_are : folders ≡ words
+  pub are_folders : AreFolders words
+  pub is_bare : IsBare shape
+  pub no_drift : shape.drift ≡ None
+
+-- `report` and `events`, with `--drift` (this project's own)
+pub record IsMerged (shape : Shape) (words folders : List (List ℕ)) (drift : ℕ) : Type 0 where
+  pub folders_are : folders ≡ words
+  pub are_folders : AreFolders words
+  pub drift_is : GivesDrift shape.drift drift
+  pub is_bare : IsBare shape
+
+-- `state`, with `--at T` from 0 to 2^62 - 1 (this project's own)
+pub record IsState (shape : Shape) (words : List (List ℕ)) (source : Input) (at : ℕ) : Type 0 where
+  pub at_is : shape.at ≡ Some (decimal at)
+  pub at_below : at < 2 ^ 62
+  pub source_is : GivesInput shape words source
+  pub is_unasked : IsUnasked shape
+
+-- `ask`, with `--questions FILE`, `--workers` and `--once` (this project's own)
+pub record IsAsk (shape : Shape) (words : List (List ℕ)) (source : Input) (questions : List ℕ) (once : Bool) : Type 0 where
+  pub questions_are : shape.questions ≡ Some questions
+  pub are_named : questions ≢ []
+  pub workers_are : GivesWorkers shape.workers
+  pub once_is : once ≡ is_some shape.once
+  pub source_is : GivesInput shape words source
+  pub no_at : shape.at ≡ None
+
+-- the word of a command (this project's own)
+abbrev pub command_name : PlainCommand → List ℕ
+command_name (Check folders) = codes "check"
+command_name (Report folders drift) = codes "report"
+command_name (Events folders drift) = codes "events"
+command_name (State source at) = codes "state"
+command_name (Ask source questions once) = codes "ask"
+
+-- options and the words after COMMAND are those of a command (this project's own)
+abbrev pub Asks : Shape → List (List ℕ) → PlainCommand → Type 0
+Asks shape words (Check folders) = IsCheck shape words folders
+Asks shape words (Report folders drift) = IsMerged shape words folders drift
+Asks shape words (Events folders drift) = IsMerged shape words folders drift
+Asks shape words (State source at) = IsState shape words source at
+Asks shape words (Ask source questions once) = IsAsk shape words source questions once
+
+-- the first positional word is COMMAND, the others are INPUT, and the options are the command's (this project's own)
+pub record IsAsked (shape : Shape) (command : PlainCommand) : Type 0 where
+  pub input : List (List ℕ)
+  pub positional_are : shape.positional ≡ command_name command ∷ input
+  pub asks : Asks shape input command
+
+-- words are a command that runs on one thread (this project's own)
+pub record IsPlain (words : List (List ℕ)) (command : PlainCommand) : Type 0 where
+  pub shape : Shape
+  pub gives : Gives words shape
+  pub is_asked : IsAsked shape command
+
+-- the words are this command (this project's own)
+abbrev pub IsCommand : List (List ℕ) → Command → Type 0
+IsCommand words (Plain command) = IsPlain words command
+
+-- the drift of an input over folders is one (this project's own)
 abbrev pub InputHasRange : Input → Type 0
 InputHasRange (input.List file) = Unit {0}
 InputHasRange (input.Folders folders drift) = IsDrift drift
 
--- the drift of a command over folders is one
+-- the drift of a command over folders is one (this project's own)
 abbrev pub HasRanges : PlainCommand → Type 0
 HasRanges (Check folders) = Unit {0}
 HasRanges (Report folders drift) = IsDrift drift
@@ -115,5 +121,6 @@ HasRanges (Events folders drift) = IsDrift drift
 HasRanges (State source at) = InputHasRange source
 HasRanges (Ask source questions once) = InputHasRange source
 
+-- the same of any command (this project's own)
 abbrev pub AreRanges : Command → Type 0
 AreRanges (Plain command) = HasRanges command

@@ -18,7 +18,7 @@ pub enum PlainCommand {
     Check {
         folders: Items<Text>,
     },
-    /// What was read of folders and how their clocks fit, by a drift in parts per million from 1 to 10,000.
+    /// The views of the merged events of folders, by a drift in parts per million from 1 to 10,000.
     Report {
         folders: Items<Text>,
         drift: u32,

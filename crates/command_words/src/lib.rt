@@ -2,6 +2,12 @@
 #![tactic(auto)]
 
 mod command;
+pub mod laws;
+mod option_name;
+mod part;
+mod parts;
+mod shape;
+mod table;
 mod words;
 
 pub use command::{Command, Input, PlainCommand};

@@ -1,13 +1,9 @@
-use Rattle.std.proofs.Common.{map, rules}
-use Rattle.std.specs.Prelude.{string_bytes}
-use Rattle.command_words.proofs.WordPlaces.{all_in_range, no_command, not_check}
+use Rattle.std.proofs.Common.{rules, map, string_bytes}
+use Rattle.command_words.proofs.OneCommand.{asks_nothing, gives_nothing}
 use Rattle.command_words.proofs.words.parse_words.Goals as goal
 
-pub returns-in-None-clause-usage : goal.returns-in-None-clause-usage
-returns-in-None-clause-usage c = λ e. no_command _ (λ folders. not_check (map string_bytes c.args.words.now) folders c.in-None.ensures.none) (c.parse_other.ensures.usage e)
+pub returns-in_err-shape-clause-usage : goal.returns-in_err-shape-clause-usage
+returns-in_err-shape-clause-usage c = λ e. gives_nothing (map string_bytes c.args.words.now) (c.in_err-shape.ensures.usage (search rules))
 
-pub returns-in-None-clause-ranges : goal.returns-in-None-clause-ranges
-returns-in-None-clause-ranges c = all_in_range _ _ c.parse_other.ensures.found
-
-pub returns-in-Some-clause-ranges : goal.returns-in-Some-clause-ranges
-returns-in-Some-clause-ranges c = all_in_range (map string_bytes c.args.words.now) _ (search rules)
+pub returns-in_err-read_command-clause-usage : goal.returns-in_err-read_command-clause-usage
+returns-in_err-read_command-clause-usage c = λ e. asks_nothing (map string_bytes c.args.words.now) _ c.in_ok-shape.ensures.found (c.in_err-read_command.ensures.usage (search rules))

@@ -1,0 +1,93 @@
+-- Words are one command at most.
+use Rattle.std.proofs.Common.{◌≡◌, ℕ, ◌<◌, ◌^◌, true, List, [], ◌∷◌, Option, Some, None, drop, get_or, rules, refl, sym, ap, ap₂, ◌∙◌, subst, arith}
+use Rattle.std.specs.Prelude.{◌↔◌}
+use Rattle.std.specs.Fmt.{decimal}
+use Rattle.trace_types.proofs.Decimals.{same_number, below_wide}
+use Rattle.command_words.specs.Parts.{Part, same_name}
+use Rattle.command_words.specs.Shapes.{Gives, HaveShape, Shape, option_list}
+use Rattle.command_words.specs.Words.{Asks, GivesDrift, GivesInput, IsAsked, IsCommand, IsDrift, command_name}
+use Rattle.command_words.specs.declared.option_name.OptionName.{OptionName}
+use Rattle.command_words.specs.declared.command.Command.{Command}
+use Rattle.command_words.specs.declared.command.Command.TheVariants.{Plain}
+use Rattle.command_words.specs.declared.command.PlainCommand.{PlainCommand}
+use Rattle.command_words.specs.declared.command.PlainCommand.TheVariants.{Check, Report, Events, State, Ask}
+use Rattle.command_words.specs.declared.command.Input.{Input}
+use Rattle.command_words.specs.declared.command.Input.TheVariants as input
+use Rattle.command_words.proofs.AllParts.{one_list}
+
+-- ---- words give one shape
+same_value : (a b : Option (List ℕ)) (vs : List (List ℕ)) → vs ≡ option_list a → vs ≡ option_list b → a ≡ b
+same_value None None vs e f = refl
+same_value None (Some v) vs e f = let no : [] ≡ v ∷ [] = sym e ∙ f in absurd (cc)
+same_value (Some u) None vs e f = let no : [] ≡ u ∷ [] = sym f ∙ e in absurd (cc)
+same_value (Some u) (Some v) vs e f = ap (λ l. Some (get_or l 0 [])) (sym e ∙ f)
+
+shape_of_parts : (ps : List Part) (s r : Shape) → HaveShape ps s → HaveShape ps r → s ≡ r
+shape_of_parts ps s r h g =
+    let at = same_value s.at r.at _ h.at_is g.at_is in
+    let drift = same_value s.drift r.drift _ h.drift_is g.drift_is in
+    let list = same_value s.list r.list _ h.list_is g.list_is in
+    let once = same_value s.once r.once _ h.once_is g.once_is in
+    let questions = same_value s.questions r.questions _ h.questions_are g.questions_are in
+    let workers = same_value s.workers r.workers _ h.workers_are g.workers_are in
+    let positional : s.positional ≡ r.positional = sym h.positional_are ∙ g.positional_are in
+    λ i. record { at = at i; drift = drift i; list = list i; once = once i; questions = questions i; workers = workers i; positional = positional i }
+
+pub one_shape : (ws : List (List ℕ)) (s r : Shape) → Gives ws s → Gives ws r → s ≡ r
+one_shape ws s r h g = shape_of_parts g.parts s r (subst (λ (ps : List Part). HaveShape ps s) (one_list ws h.parts g.parts h.are_parts g.are_parts) h.have_shape) g.have_shape
+
+-- ---- a shape is of one command
+drift_range : (d : ℕ) → IsDrift d → d < 2 ^ 128
+drift_range d h = below_wide d (2 ^ 62) (omega (arith, h.1)) (omega arith)
+
+one_drift : (given : Option (List ℕ)) (d e : ℕ) → GivesDrift given d → GivesDrift given e → d ≡ e
+one_drift None d e h g = h ∙ sym g
+one_drift (Some text) d e h g = same_number d e (drift_range d h.1) (drift_range e g.1) (sym h.0 ∙ g.0)
+
+same_some : (a : Option (List ℕ)) (u v : List ℕ) → a ≡ Some u → a ≡ Some v → u ≡ v
+same_some a u v e f = let same : Some u ≡ Some v = sym e ∙ f in cc
+
+one_instant : (given : Option (List ℕ)) (m n : ℕ) → given ≡ Some (decimal m) → given ≡ Some (decimal n) → m < 2 ^ 62 → n < 2 ^ 62 → m ≡ n
+one_instant given m n e f low high = same_number m n (below_wide m (2 ^ 62) low (omega arith)) (below_wide n (2 ^ 62) high (omega arith)) (same_some given (decimal m) (decimal n) e f)
+
+one_input : (s : Shape) (ws : List (List ℕ)) (a b : Input) → GivesInput s ws a → GivesInput s ws b → a ≡ b
+one_input s ws (input.List file) (input.List other) h g = ap input.List (same_some s.list file other h.0 g.0)
+one_input s ws (input.List file) (input.Folders folders drift) h g = let no : Some file ≡ None = sym h.0 ∙ g.0 in absurd (cc)
+one_input s ws (input.Folders folders drift) (input.List file) h g = let no : Some file ≡ None = sym g.0 ∙ h.0 in absurd (cc)
+one_input s ws (input.Folders folders drift) (input.Folders others rate) h g = ap₂ (λ fs d. input.Folders fs d) (h.1 ∙ sym g.1) (one_drift s.drift drift rate h.3 g.3)
+
+abbrev letter : PlainCommand → ℕ
+letter c = get_or (command_name c) 0 0
+
+asked_once : (s : Shape) (ws : List (List ℕ)) (c d : PlainCommand) → letter c ≡ letter d → Asks s ws c → Asks s ws d → c ≡ d
+asked_once s ws (Check folders) (Check others) e h g = ap Check (h.folders_are ∙ sym g.folders_are)
+asked_once s ws (Report folders drift) (Report others rate) e h g = ap₂ (λ fs d. Report fs d) (h.folders_are ∙ sym g.folders_are) (one_drift s.drift drift rate h.drift_is g.drift_is)
+asked_once s ws (Events folders drift) (Events others rate) e h g = ap₂ (λ fs d. Events fs d) (h.folders_are ∙ sym g.folders_are) (one_drift s.drift drift rate h.drift_is g.drift_is)
+asked_once s ws (State source at) (State other then) e h g = ap₂ (λ i t. State i t) (one_input s ws source other h.source_is g.source_is) (one_instant s.at at then h.at_is g.at_is h.at_below g.at_below)
+asked_once s ws (Ask source questions once) (Ask other asked ever) e h g =
+    let sources = one_input s ws source other h.source_is g.source_is in
+    let files = same_some s.questions questions asked h.questions_are g.questions_are in
+    let same : once ≡ ever = h.once_is ∙ sym g.once_is in
+    λ i. Ask (sources i) (files i) (same i)
+asked_once s ws c d e h g = absurd (omega (arith, e))
+
+pub one_plain : (s : Shape) (c d : PlainCommand) → IsAsked s c → IsAsked s d → c ≡ d
+one_plain s c d h g =
+    let same : command_name c ∷ h.input ≡ command_name d ∷ g.input = sym h.positional_are ∙ g.positional_are in
+    let rest : h.input ≡ g.input = ap (drop 1) same in
+    asked_once s g.input c d (ap (λ l. get_or (get_or l 0 []) 0 0) same) (subst (λ (ws : List (List ℕ)). Asks s ws c) rest h.asks) g.asks
+
+pub same_command : (ws : List (List ℕ)) (c d : Command) → IsCommand ws c → IsCommand ws d → c ≡ d
+same_command ws (Plain c) (Plain d) h g =
+    ap Plain (one_plain g.shape c d (subst (λ (s : Shape). IsAsked s c) (one_shape ws h.shape g.shape h.gives g.gives) h.is_asked) g.is_asked)
+
+-- ---- words that are no command
+pub gives_nothing : (ws : List (List ℕ)) → ((s : Shape) → Gives ws s → ⊥) → (c : Command) → IsCommand ws c → ⊥
+gives_nothing ws none (Plain c) h = none h.shape h.gives
+
+pub asks_nothing : (ws : List (List ℕ)) (s : Shape) → Gives ws s → ((c : PlainCommand) → IsAsked s c → ⊥) → (c : Command) → IsCommand ws c → ⊥
+asks_nothing ws s given none (Plain c) h = none c (subst (λ (r : Shape). IsAsked r c) (one_shape ws h.shape s h.gives given) h.is_asked)
+
+-- ---- the derived comparison tells all options apart
+pub option_is : (a b : OptionName) → same_name a b ≡ true ↔ a ≡ b
+option_is a b = search rules
