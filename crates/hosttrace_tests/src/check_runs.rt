@@ -311,7 +311,7 @@ fn words_that_are_no_command(rt: HostRuntime) -> Result<(), Fail> {
     for line in [
         "check",
         "check -d",
-        "check d -",
+        "check d -e",
         "check d --list a",
         "checks d",
     ] {

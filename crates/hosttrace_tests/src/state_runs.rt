@@ -20,10 +20,16 @@ const EXCHANGED: &[u8] = b"hosttrace events 1\n\
 
 #[test]
 fn between_two_switches(rt: HostRuntime) -> Result<(), Fail> {
-    let ran = run_on(&rt, "state --at 249 --list a.list", "a.list", TWO_SWITCHES)?;
-    assert_eq!(rt; ran.status, Status::Done);
-    assert_eq!(rt; str::from_utf8(&ran.out)?, STATE_AT_249);
-    assert!(rt; ran.err.is_empty());
+    for line in [
+        "state --at 249 --list a.list",
+        "state --list=a.list --at=249",
+        "--at 249 state --list a.list",
+    ] {
+        let ran = run_on(&rt, line, "a.list", TWO_SWITCHES)?;
+        assert_eq!(rt; ran.status, Status::Done, "{line}");
+        assert_eq!(rt; str::from_utf8(&ran.out)?, STATE_AT_249);
+        assert!(rt; ran.err.is_empty());
+    }
     Ok(())
 }
 
@@ -109,9 +115,10 @@ fn words_that_are_no_command(rt: HostRuntime) -> Result<(), Fail> {
         "state --at 05 --list a.list",
         "state --at -1 --list a.list",
         "state --at 4611686018427387904 --list a.list",
-        "state --at 249 --list -",
+        "state --at 249 --list -x",
         "state --at 249 --list a.list more",
-        "state --list a.list --at 249",
+        "state --list a.list --at 249 --at 249",
+        "state --at 249 --list a.list --drift 5",
         "states --at 249 --list a.list",
     ] {
         let ran = run_on(&rt, line, "a.list", TWO_SWITCHES)?;

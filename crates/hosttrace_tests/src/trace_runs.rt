@@ -160,12 +160,14 @@ fn states_and_answers(rt: HostRuntime) -> Result<(), Fail> {
 #[test]
 fn words_that_are_no_command(rt: HostRuntime) -> Result<(), Fail> {
     refused(&rt, "events", &[], 1, "usage\n")?;
-    refused(&rt, "events t t", &[], 1, "usage\n")?;
+    refused(&rt, "events t --at 1", &[], 1, "usage\n")?;
     refused(&rt, "events -t", &[], 1, "usage\n")?;
     refused(&rt, "event t", &[], 1, "usage\n")?;
-    refused(&rt, "state t --at 1", &[], 1, "usage\n")?;
+    refused(&rt, "state t", &[], 1, "usage\n")?;
     refused(&rt, "state --at 01 t", &[], 1, "usage\n")?;
-    refused(&rt, "state --at 1 t t", &[], 1, "usage\n")?;
+    refused(&rt, "state --at 1 t --list t", &[], 1, "usage\n")?;
+    refused(&rt, "report --drift 0 t", &[], 1, "usage\n")?;
+    refused(&rt, "report --drift 10001 t", &[], 1, "usage\n")?;
     refused(&rt, "ask --questions -q t", &[], 1, "usage\n")
 }
 
