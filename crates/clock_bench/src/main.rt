@@ -1,9 +1,12 @@
-//! Times the calls of `clock_fraction`, and shows what they give.
+//! Times the calls of `clock_fraction` and `hull_lines`, and shows what they give.
 //!
 //! `at X..` prints the heights of a steep and of a flat line, and the time that their map gives, at each
 //! time. `time CALLS` prints how many nanoseconds so many calls of `floor_at` and of `map` take, with a
-//! sum of what they give.
+//! sum of what they give. `lines POINTS..` prints how many nanoseconds the lines between so many lower
+//! and upper points take, and their slopes.
 #![tactic(auto)]
+
+mod points;
 
 use anyhow::bail;
 use clock_fraction::{Line, PairMap, Slope};
@@ -27,13 +30,18 @@ fn main(rt: HostRuntime) -> anyhow::Result<ExitCode> {
     match command.as_str() {
         "at" => print_heights(&rt, numbers)?,
         "time" => print_times(&rt, numbers)?,
+        "lines" => {
+            for number in numbers {
+                points::print_lines_time(&rt, number.as_str())?;
+            }
+        }
         _ => return usage(&rt),
     }
     Ok(ExitCode::SUCCESS)
 }
 
 fn usage(rt: &HostRuntime) -> anyhow::Result<ExitCode> {
-    eprintln!(rt; "usage: clock_bench at X.. | time CALLS..")?;
+    eprintln!(rt; "usage: clock_bench at X.. | time CALLS.. | lines POINTS..")?;
     Ok(ExitCode::FAILURE)
 }
 
