@@ -13,7 +13,7 @@ use Rattle.command_words.specs.declared.command.PlainCommand.{PlainCommand}
 use Rattle.command_words.specs.declared.command.PlainCommand.TheVariants.{Check, Report, Events, State, Ask}
 use Rattle.command_words.specs.declared.command.Input.{Input}
 use Rattle.command_words.specs.declared.command.Input.TheVariants as input
-use Rattle.command_words.proofs.WordPlaces.{same_command}
+use Rattle.command_words.proofs.OneCommand.{same_command}
 use Rattle.decode_pool.specs.declared.hosts.HostFiles.{HostFiles}
 use Rattle.hosttrace.specs.Clusters.{IsGoodCluster, IsWithinLimits}
 use Rattle.hosttrace.specs.Folders.{FILES_LIMIT, MAX_HOSTS, METADATA_LIMIT, AreRead, HasFewNames, HasManyNames, IsRead, metadata_of}
