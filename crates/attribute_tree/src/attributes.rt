@@ -58,7 +58,7 @@ impl Attributes {
         Ok(())
     }
 
-    /// Gives a new path the next number, which is the number of paths held before. At want of
+    /// Gives a new path the next number, which is the number of paths held before. At lack of
     /// memory nothing has changed.
     pub fn add(&mut self, path: Path) -> Result<usize, OutOfMemory>
         requires { IsNew self.old.paths path }

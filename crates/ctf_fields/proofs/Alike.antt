@@ -1,4 +1,4 @@
--- Fields that are read by two tables and stand for the same: the same values, names and types, each at places of its own table.
+-- Fields that are read by two tables and stand for the same: the same values, names and types, each at indices of its own table.
 use Rattle.std.proofs.Common.{◌≡◌, ℕ, ℤ, ◌<◌, List, [], ◌∷◌, Option, Some, None, length}
 use Rattle.type_table.specs.Table.{Table, tree, name_at}
 use Rattle.ctf_fields.specs.declared.open_struct.OpenStruct.{OpenStruct}
@@ -8,7 +8,7 @@ use Rattle.ctf_fields.specs.declared.field.Field.TheOpen.{Field-F}
 use Rattle.ctf_fields.specs.declared.field.Member.{Member}
 use Rattle.ctf_fields.specs.Reading.{Reads, Got, Fails}
 
--- places of one type
+-- indices of one type
 pub record SameType (t u : Table) (a b : ℕ) : Type 0 where
   pub left : a < length t.types
   pub right : b < length u.types
@@ -41,7 +41,7 @@ AlikeIf t u None None = Unit {0}
 AlikeIf t u (Some f) (Some g) = Alike t u f g
 AlikeIf t u _ _ = ⊥
 
--- of numbers with the places of their types
+-- of numbers with the indices of their types
 abbrev pub AlikeNumbers : Table → Table → Option (ℤ × ℕ) → Option (ℤ × ℕ) → Type 0
 AlikeNumbers t u None None = Unit {0}
 AlikeNumbers t u (Some n) (Some m) = (n.0 ≡ m.0) × SameType t u n.1 m.1
@@ -66,7 +66,7 @@ pub record AlikeScopes (t u : Table) (s r : Scopes) : Type 0 where
   pub event_context : AlikeIf t u s.event_context r.event_context
   pub event_fields : AlikeIf t u s.event_fields r.event_fields
 
--- two readings end at one place with values of which this holds, or fail for one cause
+-- two readings end at one bit with values of which this holds, or fail for one cause
 abbrev pub ReadBoth : {A B : Type 0} → (A → B → Type 0) → Reads A → Reads B → Type 0
 ReadBoth P (Got a at) (Got b to) = P a b × (at ≡ to)
 ReadBoth P (Fails c) (Fails d) = c ≡ d

@@ -1,4 +1,4 @@
--- What two sound tables of one trace read from the same bits: fields that are alike and end at one place, or the same cause for which none can be read.
+-- What two sound tables of one trace read from the same bits: fields that are alike and end at one bit, or the same cause for which none can be read.
 use Rattle.std.proofs.Common.{◌≡◌, ◌∙◌, ℕ, ℤ, zero, suc, pos, negsuc, List, [], ◌∷◌, ◌++◌, Option, Some, None, Bool, true, false, ◌&&◌, if◌then◌else◌, int_le, ap, ap₂, refl, sym, subst, subst₂}
 use Rattle.std.specs.Int.{next_multiple_of}
 use Rattle.type_table.specs.Table.{IsSoundTable, Table}
@@ -10,7 +10,7 @@ use Rattle.type_table.specs.declared.meta.TypeMeta.{TypeMeta}
 use Rattle.ctf_fields.specs.Choice.{by_label, by_labels, chosen, first_named}
 use Rattle.ctf_fields.specs.Fields.{fields_of, or_else, same, with_member}
 use Rattle.ctf_fields.specs.Leaves.{integer_read, text_read}
-use Rattle.ctf_fields.specs.Reading.{Fails, From, Got, Inner, MAX_TYPE_DEPTH, Reads, align_at, as_read, leaf, length_of, number_at, read, read_by, read_choice, read_item, read_items, read_list, read_member, read_members, read_number, read_sequence, read_struct, scope_read, then_read}
+use Rattle.ctf_fields.specs.Reading.{Fails, SourceModel, Got, Inner, MAX_TYPE_DEPTH, Reads, align_at, as_read, leaf, length_of, number_at, read, read_by, read_choice, read_item, read_items, read_list, read_member, read_members, read_number, read_sequence, read_struct, scope_read, then_read}
 use Rattle.ctf_fields.specs.declared.open_struct.OpenStruct.{OpenStruct}
 use Rattle.ctf_fields.specs.declared.open_struct.Scopes.{Scopes}
 use Rattle.ctf_fields.specs.declared.field.Field.{Field}
@@ -71,7 +71,7 @@ chosen_both t u (Some n) None one two tag inside = absurd tag
 
 -- ---- one reading after another
 
--- what is read after what was read alike is read alike, where it is from each place
+-- what is read after what was read alike is read alike, where it is from each bit
 pub then_both : {A B C D : Type 0} (P : A → B → Type 0) (Q : C → D → Type 0) (x : Reads A) (y : Reads B) (f : A → ℕ → Reads C) (g : B → ℕ → Reads D) → ReadBoth P x y → ((a : A) (b : B) (at : ℕ) → P a b → ReadBoth Q (f a at) (g b at))
     → ReadBoth Q (then_read x f) (then_read y g)
 then_both P Q (Got a at) (Got b to) f g both next = subst (λ k. ReadBoth Q (f a at) (g b k)) both.1 (next a b at both.0)
@@ -145,7 +145,7 @@ leaf_both t u f g None alike = refl
 leaf_both t u f g (Some r) alike = (alike r.0, refl)
 
 -- what is read by a table, of these bits
-abbrev source : Table → List ℕ → ℕ → Scopes → From
+abbrev source : Table → List ℕ → ℕ → Scopes → SourceModel
 source t bytes end scopes = record { table = t; bytes = bytes; end = end; scopes = scopes }
 
 -- one integer
@@ -176,7 +176,7 @@ members_both : (t u : Table) (i j : Inner) {fs gs : List FieldMeta} (open_struct
 members_both t u i j open_structs others at inner no_fields here = (here, refl)
 members_both t u i j open_structs others at inner (and_field f g fs gs name ty rest) here =
     then_both (AlikeOpenStructs t u) (AlikeOpenStructs t u) _ _ (read_members i fs) (read_members j gs) (member_both t u i j f g open_structs others at inner name ty here)
-    (λ a b place alike. members_both t u i j a b place inner rest alike)
+    (λ a b bit alike. members_both t u i j a b bit inner rest alike)
 
 -- structures of one alignment, with the same fields
 struct_both : (t u : Table) (i j : Inner) (x y : Option ℕ) (align : ℕ) {fs gs : List FieldMeta} (open_structs others : List OpenStruct) (at : ℕ) → InnerAlike t u i j → AlikeNames t u x y → SameFields t u fs gs → AlikeOpenStructs t u open_structs others
@@ -206,7 +206,7 @@ items_both : (t u : Table) (i j : Inner) (a b : ℕ) (open_structs others : List
 items_both t u i j a b open_structs others zero done made at inner same here items = (items, refl)
 items_both t u i j a b open_structs others (suc n) done made at inner same here items =
     then_both (AlikeItems t u) (AlikeItems t u) _ _ (read_items i a open_structs n) (read_items j b others n) (item_both t u i j a b open_structs others done made at inner same here items)
-    (λ more rest place alike. items_both t u i j a b open_structs others n more rest place inner same here alike)
+    (λ more rest bit alike. items_both t u i j a b open_structs others n more rest bit inner same here alike)
 
 -- lists of one length, of items of one type
 list_both : (t u : Table) (i j : Inner) (n a b : ℕ) (open_structs others : List OpenStruct) (at : ℕ) → InnerAlike t u i j → SameType t u a b → AlikeOpenStructs t u open_structs others
@@ -275,7 +275,7 @@ deep_both t u bytes end s r (suc d) one two scopes x y a b open_structs others a
     (by_both t u bytes end s r (read d (source t bytes end s)) (read d (source u bytes end r)) x y a b open_structs others at one two scopes (deep_both t u bytes end s r d one two scopes) name same types.same here)
 
 -- scopes of one type are read alike by two sound tables, after scopes that are alike
-pub reads_alike : (from to : From) (a b at : ℕ) → IsSoundTable from.table → IsSoundTable to.table → from.bytes ≡ to.bytes → from.end ≡ to.end → AlikeScopes from.table to.table from.scopes to.scopes → SameType from.table to.table a b
+pub reads_alike : (from to : SourceModel) (a b at : ℕ) → IsSoundTable from.table → IsSoundTable to.table → from.bytes ≡ to.bytes → from.end ≡ to.end → AlikeScopes from.table to.table from.scopes to.scopes → SameType from.table to.table a b
     → ReadBoth (Alike from.table to.table) (scope_read from a at) (scope_read to b at)
 reads_alike from to a b at one two bytes end scopes same =
     subst₂ (λ bs e. ReadBoth (Alike from.table to.table) (scope_read from a at) (scope_read (source to.table bs e to.scopes) b at)) bytes end

@@ -4,7 +4,7 @@ pub mod AlikeReading
 pub mod Chosen
 pub mod Integers
 pub mod Nearest
-pub mod Places
+pub mod Aligned
 pub mod SameTypes
 pub mod Steps
 pub mod Zeros

@@ -1,4 +1,4 @@
--- What two places of equal trees give, where both tables are sound: types of one kind, whose parts are equal or places of equal trees.
+-- What two indices of equal trees give, where both tables are sound: types of one kind, whose parts are equal or indices of equal trees.
 use Rattle.std.proofs.Common.{◌≡◌, ◌∙◌, ℕ, zero, suc, ◌<◌, List, [], ◌∷◌, Option, Some, None, Bool, if◌then◌else◌, get_or, length, map, slice_get, ap, refl, sym, subst, subst₂, lt-ltb}
 use Rattle.std.proofs.lemmas.Option.{slice_get-get_or}
 use Rattle.trace_types.specs.declared.byte_order.ByteOrderKind.{ByteOrderKind}
@@ -11,7 +11,7 @@ use Rattle.type_table.specs.declared.meta.Reference.{Reference}
 use Rattle.type_table.specs.declared.meta.ScopeName.{ScopeName}
 use Rattle.type_table.specs.declared.meta.TypeMeta.{TypeMeta}
 use Rattle.type_table.specs.declared.meta.TypeMeta.TheVariants as meta
-use Rattle.type_table.proofs.Tables.{place_refers, tree_is}
+use Rattle.type_table.proofs.Tables.{index_refers, tree_is}
 use Rattle.ctf_fields.specs.Choice.{labels_in}
 use Rattle.ctf_fields.specs.Reading.{align_at, integer_of, integer_type}
 use Rattle.ctf_fields.proofs.Alike.{SameName, SameType}
@@ -39,7 +39,7 @@ pub data SameLabels (t u : Table) : List LabelMeta → List LabelMeta → Type 0
   no_labels : SameLabels t u [] []
   and_label : (l m : LabelMeta) (ls ms : List LabelMeta) → SameName t u l.name m.name → l.low ≡ m.low → l.high ≡ m.high → SameLabels t u ls ms → SameLabels t u (l ∷ ls) (m ∷ ms)
 
--- two places have types that are one integer
+-- two indices have types that are one integer
 pub record SameBase (t u : Table) (a b : ℕ) : Type 0 where
   pub number : Integer
   pub left : integer_of (slice_get t.types a) ≡ Some number
@@ -125,7 +125,7 @@ whole_integer names ts (meta.Variant tag fs) whole = absurd whole
 whole_integer names ts (meta.Array count item) whole = absurd whole
 whole_integer names ts (meta.Sequence count item) whole = absurd whole
 
--- a place whose tree is an integer has a type of that integer
+-- an index whose tree is an integer has a type of that integer
 base_integer : (t : Table) (a : ℕ) → IsSoundTable t → a < length t.types → IsWhole (tree t a) → integer_of (slice_get t.types a) ≡ Some (integer_in (tree t a))
 base_integer t a sound within whole =
     let k = get_or t.types a meta.Str in
@@ -164,7 +164,7 @@ same_shapes t u (meta.Sequence r a) (meta.Sequence s b) here there left right ba
     sequences r s a b (same_reference t u r s field_path) (record { left = left; right = right; same = item })
 same_shapes t u _ _ here there left right based based' e = absurd (cc)
 
--- the types at two places, which are of one kind with the same parts
+-- the types at two indices, which are of one kind with the same parts
 pub record TypesAt (t u : Table) (a b : ℕ) : Type 0 where
   pub left : TypeMeta
   pub right : TypeMeta
@@ -172,7 +172,7 @@ pub record TypesAt (t u : Table) (a b : ℕ) : Type 0 where
   pub at_right : slice_get u.types b ≡ Some right
   pub same : SameMeta t u left right
 
--- places of one tree have types of one kind with the same parts
+-- indices of one tree have types of one kind with the same parts
 pub types_at : (t u : Table) (a b : ℕ) → IsSoundTable t → IsSoundTable u → SameType t u a b → TypesAt t u a b
 types_at t u a b here there is =
     let k = get_or t.types a meta.Str in
@@ -185,7 +185,7 @@ types_at t u a b here there is =
       right = l;
       at_left = at_left;
       at_right = at_right;
-      same = same_shapes t u k l here there (place_refers t.names t.types a k here.ranked is.left at_left) (place_refers u.names u.types b l there.ranked is.right at_right)
+      same = same_shapes t u k l here there (index_refers t.names t.types a k here.ranked is.left at_left) (index_refers u.names u.types b l there.ranked is.right at_right)
           (based_at (trees t) t.types a k here.based at_left) (based_at (trees u) u.types b l there.based at_right) trees_same;
     }
 
@@ -197,7 +197,7 @@ number_of_both t u (integers size align signed order clock size' align' signed' 
 number_of_both t u (enums a b ls ms base same) = base.left ∙ sym base.right
 number_of_both t u _ = refl
 
--- places of one tree are of one integer, or of none
+-- indices of one tree are of one integer, or of none
 pub same_integer : (t u : Table) (a b : ℕ) → IsSoundTable t → IsSoundTable u → SameType t u a b → integer_type t a ≡ integer_type u b
 same_integer t u a b here there is =
     let types = types_at t u a b here there is in
@@ -208,16 +208,16 @@ labels_of_both : (t u : Table) {k l : TypeMeta} → SameMeta t u k l → SameLab
 labels_of_both t u (enums a b ls ms base same) = same
 labels_of_both t u _ = no_labels
 
--- places of one tree have the same labels
+-- indices of one tree have the same labels
 pub same_labels : (t u : Table) (a b : ℕ) → IsSoundTable t → IsSoundTable u → SameType t u a b → SameLabels t u (labels_in (slice_get t.types a)) (labels_in (slice_get u.types b))
 same_labels t u a b here there is =
     let types = types_at t u a b here there is in
     subst₂ (λ k l. SameLabels t u (labels_in k) (labels_in l)) (sym types.at_left) (sym types.at_right) (labels_of_both t u types.same)
 
--- a place of a table is aligned as its tree
+-- an index of a table is aligned as its tree
 aligned_there : (t : Table) (a : ℕ) → a < length t.types → align_at t a ≡ alignment (tree t a)
 aligned_there t a within = ap (λ c. if c then alignment (tree t a) else 8) (lt-ltb a (length t.types) within)
 
--- places of one tree are aligned alike
+-- indices of one tree are aligned alike
 pub same_align : (t u : Table) (a b : ℕ) → SameType t u a b → align_at t a ≡ align_at u b
 same_align t u a b is = aligned_there t a is.left ∙ ap alignment is.same ∙ sym (aligned_there u b is.right)

@@ -5,25 +5,25 @@ use Rattle.ctf_fields.specs.declared.open_struct.OpenStruct.{OpenStruct}
 use Rattle.ctf_fields.specs.declared.error.FieldError.{FieldError}
 use Rattle.ctf_fields.specs.declared.error.FieldError.TheVariants.{ShortContent, NoVariant, TooLong, OutOfMemory}
 use Rattle.ctf_fields.specs.declared.field.Field.{Field}
-use Rattle.ctf_fields.specs.Reading.{From, Inner, Reads, Got, Fails, GivesWith, read, read_by, read_item, read_items, then_read}
+use Rattle.ctf_fields.specs.Reading.{SourceModel, Inner, Reads, Got, Fails, GivesWith, read, read_by, read_item, read_items, then_read}
 
-step_in : (d e : ℕ) (from : From) (name : Option ℕ) (ty : ℕ) (meta : TypeMeta) (open_structs : List OpenStruct) (at : ℕ) → d ≡ suc e → slice_get from.table.types ty ≡ Some meta
+step_in : (d e : ℕ) (from : SourceModel) (name : Option ℕ) (ty : ℕ) (meta : TypeMeta) (open_structs : List OpenStruct) (at : ℕ) → d ≡ suc e → slice_get from.table.types ty ≡ Some meta
     → read d from name ty open_structs at ≡ read_by (read e from) from name ty (Some meta) open_structs at
 unfolding read
 step_in d e from name ty meta open_structs at is there = ap (λ n. read n from name ty open_structs at) is ∙ ap (λ m. read_by (read e from) from name ty m open_structs at) there
 
 -- a type is read by those within it, one less deep
-pub one_deeper : (d : ℕ) (from : From) (name : Option ℕ) (ty : ℕ) (meta : TypeMeta) (open_structs : List OpenStruct) (at : ℕ) → 1 ≤ d → slice_get from.table.types ty ≡ Some meta
+pub one_deeper : (d : ℕ) (from : SourceModel) (name : Option ℕ) (ty : ℕ) (meta : TypeMeta) (open_structs : List OpenStruct) (at : ℕ) → 1 ≤ d → slice_get from.table.types ty ≡ Some meta
     → read d from name ty open_structs at ≡ read_by (read (d - 1) from) from name ty (Some meta) open_structs at
 one_deeper d from name ty meta open_structs at h there = step_in d (d - 1) from name ty meta open_structs at (omega (arith, h)) there
 
 -- one item of several
-pub one_item : (inner : Inner) (ty : ℕ) (open_structs after : List OpenStruct) (count index : ℕ) (done more : List Field) (at place : ℕ) → index < count → open_structs ≡ after → read_item inner ty open_structs done at ≡ Got more place
-    → read_items inner ty open_structs (count - index) done at ≡ read_items inner ty after (count - (index + 1)) more place
-one_item inner ty open_structs after count index done more at place h same got =
+pub one_item : (inner : Inner) (ty : ℕ) (open_structs after : List OpenStruct) (count index : ℕ) (done more : List Field) (at bit : ℕ) → index < count → open_structs ≡ after → read_item inner ty open_structs done at ≡ Got more bit
+    → read_items inner ty open_structs (count - index) done at ≡ read_items inner ty after (count - (index + 1)) more bit
+one_item inner ty open_structs after count index done more at bit h same got =
     ap (λ n. read_items inner ty open_structs n done at) next
     ∙ ap (λ r. then_read r (read_items inner ty open_structs (count - (index + 1)))) got
-    ∙ ap (λ a. read_items inner ty a (count - (index + 1)) more place) same
+    ∙ ap (λ a. read_items inner ty a (count - (index + 1)) more bit) same
   where
     next : count - index ≡ suc (count - (index + 1))
     next = omega (arith, h)

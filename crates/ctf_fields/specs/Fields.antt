@@ -98,7 +98,7 @@ field_by names scopes open_structs (Some scope) words = from_scope names (scope_
 abbrev pub field_of : List Text → Scopes → List OpenStruct → Reference → Option Field
 field_of names scopes open_structs field_path = field_by names scopes open_structs field_path.scope field_path.words
 
--- a number with the place of its type
+-- a number with the index of its type
 abbrev pub number_in : Field-F Field Member → Option (ℤ × ℕ)
 number_in (Field-F.Int ty value) = Some (value, ty)
 number_in _ = None

@@ -1,4 +1,4 @@
--- What is read of a type from a place on, and the place after it, or the first cause for which it can't be (CTF 1.8, section 4; the alignment of an empty list is this project's own).
+-- What is read of a type from a bit on, and the bit after it, or the first cause for which it can't be (CTF 1.8, section 4; the alignment of an empty list is this project's own).
 use Rattle.std.specs.Prelude.{◌≡◌, ℕ, zero, suc, ℤ, pos, nat_le, nat_lt, List, [], ◌∷◌, ◌++◌, Option, Some, None, Result, Ok, Err, length, option_map, slice_get, if◌then◌else◌}
 pub use Rattle.trace_types.specs.declared.limits.TheConstants.{MAX_ITEMS, MAX_TYPE_DEPTH}
 use Rattle.std.specs.Int.{next_multiple_of}
@@ -19,17 +19,17 @@ use Rattle.ctf_fields.specs.Choice.{chosen}
 use Rattle.ctf_fields.specs.Fields.{field_of, fields_of, number_of, with_member}
 use Rattle.ctf_fields.specs.Leaves.{integer_read, text_read}
 
--- a value that was read, and the place after it; or why it couldn't be
+-- a value that was read, and the bit after it; or why it couldn't be
 pub data Reads (A : Type 0) : Type 0 where
   Got : A → ℕ → Reads A
   Fails : FieldError → Reads A
 
 abbrev pub then_read : {A B : Type 0} → Reads A → (A → ℕ → Reads B) → Reads B
-then_read (Got a place) next = next a place
+then_read (Got a bit) next = next a bit
 then_read (Fails cause) next = Fails cause
 
 abbrev pub as_read : {A B : Type 0} → (A → B) → Reads A → Reads B
-as_read f (Got a place) = Got (f a) place
+as_read f (Got a bit) = Got (f a) bit
 as_read f (Fails cause) = Fails cause
 
 -- a call answers what is read; lack of memory is the one free answer
@@ -40,22 +40,22 @@ Gives reads (Err NoVariant) = reads ≡ Fails NoVariant
 Gives reads (Err TooLong) = reads ≡ Fails TooLong
 Gives reads (Err OutOfMemory) = Unit {0}
 
--- a call answers the place after what is read, and leaves this value
+-- a call answers the bit after what is read, and leaves this value
 abbrev pub GivesWith : {A : Type 0} → Reads A → A → Result ℕ FieldError → Type 0
-GivesWith reads a (Ok place) = reads ≡ Got a place
+GivesWith reads a (Ok bit) = reads ≡ Got a bit
 GivesWith reads a (Err ShortContent) = reads ≡ Fails ShortContent
 GivesWith reads a (Err NoVariant) = reads ≡ Fails NoVariant
 GivesWith reads a (Err TooLong) = reads ≡ Fails TooLong
 GivesWith reads a (Err OutOfMemory) = Unit {0}
 
 -- what fields are read from: types, bits up to an end, and the scopes that were read before
-pub record From : Type 0 where
+pub record SourceModel : Type 0 where
   pub table : Table
   pub bytes : List ℕ
   pub end : ℕ
   pub scopes : Scopes
 
--- how the types within a type are read: the name of the field that it is, its place, the structures around it, and the place of its bits
+-- how the types within a type are read: the name of the field that it is, its index, the structures around it, and its first bit
 abbrev pub Inner : Type 0
 Inner = Option ℕ → ℕ → List OpenStruct → ℕ → Reads Field
 
@@ -70,7 +70,7 @@ abbrev pub integer_of : Option TypeMeta → Option Integer
 integer_of (Some (meta.Integer size align signed order map)) = Some (record { size = size; align = align; signed = signed; order = order; clock = map })
 integer_of _ = None
 
--- the integer that the type at a place is, or that it is an enumeration of
+-- the integer that the type at an index is, or that it is an enumeration of
 abbrev pub integer_type : Table → ℕ → Option Integer
 integer_type t ty = by (slice_get t.types ty)
   where
@@ -78,8 +78,8 @@ integer_type t ty = by (slice_get t.types ty)
     by (Some (meta.Enum base labels)) = integer_of (slice_get t.types base)
     by other = integer_of other
 
--- an integer, or an enumeration, whose own type is at this place
-abbrev pub read_number : From → ℕ → Option Integer → ℕ → Reads Field
+-- an integer, or an enumeration, whose own type is at this index
+abbrev pub read_number : SourceModel → ℕ → Option Integer → ℕ → Reads Field
 read_number from ty None at = Fails ShortContent
 read_number from ty (Some i) at = leaf (field.Int ty) (integer_read i from.bytes from.end at)
 
@@ -109,8 +109,8 @@ abbrev pub read_items : Inner → ℕ → List OpenStruct → ℕ → List Field
 read_items inner ty open_structs zero done at = Got done at
 read_items inner ty open_structs (suc n) done at = then_read (read_item inner ty open_structs done at) (read_items inner ty open_structs n)
 
--- an integer at each place
-abbrev pub numbers : From → Integer → Inner
+-- an integer at each bit
+abbrev pub numbers : SourceModel → Integer → Inner
 numbers from i = λ name ty open_structs at. read_number from ty (Some i) at
 
 -- a structure with one more field, which is read so
@@ -125,7 +125,7 @@ align_at t ty = if nat_lt ty (length t.types) then alignment (tree t ty) else 8
 abbrev pub read_list : Inner → Table → ℕ → ℕ → List OpenStruct → ℕ → Reads Field
 read_list inner t count ty open_structs at = as_read (field.List ty) (read_items inner ty open_structs count [] (next_multiple_of at (align_at t ty)))
 
--- an array of integers: the integer, how many, and the place of their type
+-- an array of integers: the integer, how many, and the index of their type
 abbrev pub array_by : Table → Option TypeMeta → Option (Integer × ℕ × ℕ)
 array_by t (Some (meta.Array count item)) = option_map (λ i. (i, count, item)) (integer_type t item)
 array_by t _ = None
@@ -140,10 +140,10 @@ read_sequence inner t (Some count) ty open_structs at = read_list inner t count 
 
 -- ---- types
 
-abbrev pub number_at : From → List OpenStruct → Reference → Option (ℤ × ℕ)
+abbrev pub number_at : SourceModel → List OpenStruct → Reference → Option (ℤ × ℕ)
 number_at from open_structs field_path = number_of (field_of from.table.names from.scopes open_structs field_path)
 
-unfoldable pub read_by : Inner → From → Option ℕ → ℕ → Option TypeMeta → List OpenStruct → ℕ → Reads Field
+unfoldable pub read_by : Inner → SourceModel → Option ℕ → ℕ → Option TypeMeta → List OpenStruct → ℕ → Reads Field
 read_by inner from name ty None open_structs at = Fails ShortContent
 read_by inner from name ty (Some (meta.Integer size align signed order map)) open_structs at = read_number from ty (Some (record { size = size; align = align; signed = signed; order = order; clock = map })) at
 read_by inner from name ty (Some (meta.Enum base labels)) open_structs at = read_number from ty (integer_of (slice_get from.table.types base)) at
@@ -153,11 +153,11 @@ read_by inner from name ty (Some (meta.Variant tag fs)) open_structs at = read_c
 read_by inner from name ty (Some (meta.Array count item)) open_structs at = read_list inner from.table count item open_structs at
 read_by inner from name ty (Some (meta.Sequence count item)) open_structs at = read_sequence inner from.table (length_of (number_at from open_structs count)) item open_structs at
 
--- the type at a place, of which none goes deeper than so many
-unfoldable pub read : ℕ → From → Option ℕ → ℕ → List OpenStruct → ℕ → Reads Field
+-- the type at an index, of which none goes deeper than so many
+unfoldable pub read : ℕ → SourceModel → Option ℕ → ℕ → List OpenStruct → ℕ → Reads Field
 read zero from name ty open_structs at = Fails ShortContent
 read (suc depth) from name ty open_structs at = read_by (read depth from) from name ty (slice_get from.table.types ty) open_structs at
 
 -- the type of a scope
-abbrev pub scope_read : From → ℕ → ℕ → Reads Field
+abbrev pub scope_read : SourceModel → ℕ → ℕ → Reads Field
 scope_read from ty at = read MAX_TYPE_DEPTH from None ty [] at

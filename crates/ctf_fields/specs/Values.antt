@@ -6,7 +6,7 @@ use Rattle.ctf_fields.specs.declared.field.Field.{Field}
 use Rattle.ctf_fields.specs.Fields.{number_of}
 use Rattle.ctf_fields.specs.Named.{first_named}
 
--- the number of the first field of a name, with the place of its type; and its value
+-- the number of the first field of a name, with the index of its type; and its value
 abbrev pub number_named : Table → Text → Option Field → Option (ℤ × ℕ)
 number_named t text f = number_of (first_named t.names text f)
 

@@ -7,7 +7,7 @@ use crate::names::is_same;
 use crate::source::Source;
 use type_table::{FieldMeta, LabelMeta, Table, TypeMeta};
 
-/// The field of a variant that the tag chooses, a number with the place of its type.
+/// The field of a variant that the tag chooses, a number with the index of its type.
 pub fn chosen(
     source: &Source<'_>,
     tag: Option<(i128, u32)>,

@@ -2,7 +2,7 @@
 use sqlite_items::{Boxed, Items};
 use trace_types::Text;
 
-/// A field. Names are places in the names of the trace's types, and `ty` is a place among the types.
+/// A field. Names are indices in the names of the trace's types, and `ty` is an index among the types.
 #[cycle(field)]
 #[derive(Debug, Drop)]
 pub enum Field {

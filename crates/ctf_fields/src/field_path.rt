@@ -8,7 +8,7 @@ use crate::names::is_same;
 use crate::open_struct::{OpenStruct, Scopes};
 use type_table::{Reference, Table};
 
-/// The number that a field path leads to, with the place of its type, from the structures that are being read, the
+/// The number that a field path leads to, with the index of its type, from the structures that are being read, the
 /// innermost last.
 pub fn number_at(
     table: &Table,

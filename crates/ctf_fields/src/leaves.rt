@@ -9,7 +9,7 @@ use std::alloc::Global;
 use trace_types::{OutOfMemory, Text, cut_at};
 use type_table::Integer;
 
-/// The integer at the first place from `at` that it is aligned to, and the place after it. `None` comes exactly
+/// The integer at the first bit from `at` that it is aligned to, and the bit after it. `None` comes exactly
 /// where a bit of it lies past the end. It takes no memory.
 #[inline(always)]
 pub fn read_integer(bits: BitSpan<'_>, at: u64, integer: Integer) -> Option<(i128, u64)>
@@ -18,18 +18,18 @@ pub fn read_integer(bits: BitSpan<'_>, at: u64, integer: Integer) -> Option<(i12
     requires integer { IsReadable integer }
     ensures { result ≡ integer_read integer bits.entry.bytes.now bits.entry.end at }
 {
-    let place = next_place(at, integer.align);
-    let end = place + u64::from(integer.size);
+    let bit = next_bit(at, integer.align);
+    let end = bit + u64::from(integer.size);
     if end > bits.end {
         return None;
     }
-    let number = read_bits(bits.bytes, place, integer.size, integer.order)?;
+    let number = read_bits(bits.bytes, bit, integer.size, integer.order)?;
     Some((value_of(integer, number), end))
 }
 
-/// The first place from here that is aligned so. Most fields are aligned to bytes, or to nothing.
+/// The first bit from here that is aligned so. Most fields are aligned to bytes, or to nothing.
 #[inline(always)]
-pub fn next_place(at: u64, align: u32) -> u64
+pub fn next_bit(at: u64, align: u32) -> u64
     requires at { at ≤ 2 ^ 63 }
     requires align { 1 ≤ align }
     ensures { result ≡ next_multiple_of at align }
@@ -54,7 +54,7 @@ fn value_of(integer: Integer, number: u64) -> i128
     }
 }
 
-/// The string at the first whole byte from `at`, without its zero byte, and the place after that. `None` comes
+/// The string at the first whole byte from `at`, without its zero byte, and the bit after that. `None` comes
 /// exactly where no zero byte lies before the end.
 pub fn read_text(
     alloc: Global,
@@ -66,21 +66,21 @@ pub fn read_text(
     ensures read { IfOk result (λ found. found ≡ text_read bits.entry.bytes.now bits.entry.end at) }
     ensures within { IfOk result (λ found. IfSome found (λ r. (at ≤ r.1) × (r.1 ≤ bits.entry.end))) }
 {
-    let place = at.next_multiple_of(8);
-    let Some(text) = text_in(bytes_from(bits, place)) else {
+    let bit = at.next_multiple_of(8);
+    let Some(text) = text_in(bytes_from(bits, bit)) else {
         return Ok(None);
     };
-    let end = place + 8 * (text.len() as u64 + 1);
+    let end = bit + 8 * (text.len() as u64 + 1);
     Ok(Some((Text::from_bytes(alloc, text)?, end)))
 }
 
 // The whole bytes from this one to the end.
-fn bytes_from(bits: BitSpan<'_>, place: u64) -> &[u8]
+fn bytes_from(bits: BitSpan<'_>, bit: u64) -> &[u8]
     requires { IsSpan bits.bytes.now bits.end }
-    ensures { result.now ≡ bytes_from bits.entry.bytes.now bits.entry.end place }
+    ensures { result.now ≡ bytes_from bits.entry.bytes.now bits.entry.end bit }
 {
     let whole = &bits.bytes[..(bits.end / 8) as usize];
-    match whole.get((place / 8) as usize..) {
+    match whole.get((bit / 8) as usize..) {
         Some(left) => left,
         None => &[],
     }

@@ -6,14 +6,14 @@ ghost use Rattle.ctf_fields.specs.Reading.{Gives, GivesWith, member_read, number
 
 use crate::error::FieldError;
 use crate::field::{Field, Member};
-use crate::leaves::next_place;
+use crate::leaves::next_bit;
 use crate::open_struct::OpenStruct;
 use crate::source::Source;
 use sqlite_items::Items;
 use std::alloc::{AllocError, Global};
 use type_table::{FieldMeta, Integer};
 
-/// One more field of a structure, of this integer, and the place after it.
+/// One more field of a structure, of this integer, and the bit after it.
 #[inline(always)]
 pub fn add_number_member(
     source: &Source<'_>,
@@ -38,7 +38,7 @@ pub fn add_number_member(
     Ok(end)
 }
 
-/// One more field of a structure, an array of integers, and the place after it.
+/// One more field of a structure, an array of integers, and the bit after it.
 pub fn add_array_member(
     alloc: Global,
     source: &Source<'_>,
@@ -72,21 +72,21 @@ fn read_array(
     ensures forward { IfOk result (λ r. (at ≤ r.1) × (r.1 ≤ 2 ^ 63)) }
 {
     let (integer, count, item) = array;
-    let place = aligned(at, source.align_at(item));
-    let mut items = room_for(alloc, count.min(source.bits_left(place)))?;
-    let end = add_numbers(source, integer, count, item, place, &mut items)?;
+    let bit = aligned(at, source.align_at(item));
+    let mut items = room_for(alloc, count.min(source.bits_left(bit)))?;
+    let end = add_numbers(source, integer, count, item, bit, &mut items)?;
     Ok((Field::List { item, items }, end))
 }
 
-/// The first place from here that is aligned so.
-#[tactic(auto, using(crate::proofs::Places::within_all))]
+/// The first bit from here that is aligned so.
+#[tactic(auto, using(crate::proofs::Aligned::within_all))]
 pub fn aligned(at: u64, align: u32) -> u64
     requires at { at ≤ 2 ^ 63 }
     requires aligns { (1 ≤ align) × (65536 % align ≡ 0) }
     ensures is { result ≡ next_multiple_of at align }
     ensures within { (at ≤ result) × (result ≤ 2 ^ 63) }
 {
-    next_place(at, align)
+    next_bit(at, align)
 }
 
 /// An empty list with room for so many items.
@@ -96,7 +96,7 @@ pub fn room_for<T: Drop>(alloc: Global, count: u64) -> Result<Items<T>, AllocErr
     Ok(Items::from_vec(Vec::with_capacity(alloc, count as usize)?))
 }
 
-/// So many items of this integer, one after the other, and the place after them.
+/// So many items of this integer, one after the other, and the bit after them.
 pub fn add_numbers(
     source: &Source<'_>,
     integer: Integer,
@@ -110,11 +110,11 @@ pub fn add_numbers(
     ensures gives { GivesWith (read_items (numbers source.now integer) item [] count items.old at) items.new result }
     ensures forward { IfOk result (λ end. (at ≤ end) × (end ≤ 2 ^ 63)) }
 {
-    let mut place = at;
+    let mut bit = at;
     for _index in 0..count {
-        place = add_number(source, integer, item, place, items)?;
+        bit = add_number(source, integer, item, bit, items)?;
     }
-    Ok(place)
+    Ok(bit)
 }
 
 #[inline(always)]

@@ -1,7 +1,7 @@
 //! Events as they are read.
 use crate::field::Field;
 
-/// An event of a packet. `time` is in ns, `event` a place among the events that the metadata declares. `fields` has
+/// An event of a packet. `time` is in ns, `event` an index among the events that the metadata declares. `fields` has
 /// no member where the event declares no fields.
 #[derive(Debug, Drop)]
 pub struct RawEvent {

@@ -21,7 +21,7 @@ use std::mem;
 use trace_types::{MAX_ITEMS, MAX_TYPE_DEPTH};
 use type_table::{FieldMeta, Reference, TraceMeta, TypeMeta};
 
-/// The field of a scope's type from a place on, in bits, and the place of the first bit after it. `scopes` has the
+/// The field of a scope's type from a bit on, and the first bit after it. `scopes` has the
 /// fields of the scopes that are read before it.
 pub fn read_type(
     alloc: Global,
@@ -60,7 +60,7 @@ pub fn read_type_within(
     read(alloc, &source, scratch, MAX_TYPE_DEPTH, None, ty, at)
 }
 
-// The type at a place, for a field of this name of the structure around it.
+// The type at an index, for a field of this name of the structure around it.
 #[cycle(read)]
 #[tactic(auto, unfolding(crate::specs::Reading::read, crate::specs::Reading::read_by))]
 fn read(
@@ -170,12 +170,12 @@ fn read_struct(
     ensures forward { IfOk result (λ r. (at ≤ r.1) × (r.1 ≤ 2 ^ 63)) }
     ensures stays { OnOk result (reverse scratch.new.open_structs ≡ reverse scratch.old.open_structs) }
 {
-    let place = aligned(at, align);
+    let bit = aligned(at, align);
     let mut inner = OpenStruct {
         name,
         fields: scratch.list_for(alloc, fields.len() as u64)?,
     };
-    let end = read_members(alloc, source, scratch, &mut inner, depth, fields, place)?;
+    let end = read_members(alloc, source, scratch, &mut inner, depth, fields, bit)?;
     Ok((Field::Struct(inner.fields), end))
 }
 
@@ -195,11 +195,11 @@ fn read_members(
     ensures forward { IfOk result (λ end. (at ≤ end) × (end ≤ 2 ^ 63)) }
     ensures stays { OnOk result (reverse scratch.new.open_structs ≡ reverse scratch.old.open_structs) }
 {
-    let mut place = at;
+    let mut bit = at;
     for field in fields {
-        place = read_member(alloc, source, scratch, inner, depth, *field, place)?;
+        bit = read_member(alloc, source, scratch, inner, depth, *field, bit)?;
     }
-    Ok(place)
+    Ok(bit)
 }
 
 // One more field of a structure within those around.
@@ -304,8 +304,8 @@ fn read_list(
     ensures forward { IfOk result (λ r. (at ≤ r.1) × (r.1 ≤ 2 ^ 63)) }
     ensures stays { OnOk result (reverse scratch.new.open_structs ≡ reverse scratch.old.open_structs) }
 {
-    let place = aligned(at, source.align_at(item));
-    let (items, end) = read_items(alloc, source, scratch, depth, count, item, place)?;
+    let bit = aligned(at, source.align_at(item));
+    let (items, end) = read_items(alloc, source, scratch, depth, count, item, bit)?;
     Ok((Field::List { item, items }, end))
 }
 
@@ -371,11 +371,11 @@ fn add_each(
     ensures forward { IfOk result (λ end. (at ≤ end) × (end ≤ 2 ^ 63)) }
     ensures stays { OnOk result (reverse scratch.new.open_structs ≡ reverse scratch.old.open_structs) }
 {
-    let mut place = at;
+    let mut bit = at;
     for _index in 0..count {
-        place = add_item(alloc, source, scratch, depth, item, place, items)?;
+        bit = add_item(alloc, source, scratch, depth, item, bit, items)?;
     }
-    Ok(place)
+    Ok(bit)
 }
 
 #[cycle(read)]

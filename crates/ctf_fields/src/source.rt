@@ -27,11 +27,11 @@ pub struct Source<'a> {
 
 impl<'a> Model for Source<'a> {
     ghost use Rattle.ctf_fields.specs.Leaves.{IsSpan};
-    ghost use Rattle.ctf_fields.specs.Reading.{From};
+    ghost use Rattle.ctf_fields.specs.Reading.{SourceModel};
     ghost use Rattle.ctf_fields.specs.contracts.field.Field as field;
     ghost use Rattle.std.specs.Coded.{codes};
 
-    ghost Value = { From };
+    ghost Value = { SourceModel };
 
     ghost coded = { Prim.hlevel (codes, field.the_row.coded) };
 
@@ -58,60 +58,60 @@ impl<'a> Source<'a> {
         self.table
     }
 
-    /// How many bits are left at a place.
+    /// How many bits are left at a bit.
     pub fn bits_left(&self, at: u64) -> u64 {
         self.bits.end.saturating_sub(at)
     }
 
-    /// The type at a place.
-    pub fn type_at(&self, place: u32) -> Option<&TypeMeta>
-        ensures found { option_copied result ≡ slice_get self.now.table.types place }
+    /// The type at an index.
+    pub fn type_at(&self, index: u32) -> Option<&TypeMeta>
+        ensures found { option_copied result ≡ slice_get self.now.table.types index }
         ensures sound { IfSome result (λ ty. IsSound ty.now) }
     {
-        type_at(self.table, place)
+        type_at(self.table, index)
     }
 
-    /// The integer that the type at a place is, or that it is an enumeration of.
-    pub fn number_type(&self, place: u32) -> Option<Integer>
-        ensures found { result ≡ integer_type self.now.table place }
+    /// The integer that the type at an index is, or that it is an enumeration of.
+    pub fn number_type(&self, index: u32) -> Option<Integer>
+        ensures found { result ≡ integer_type self.now.table index }
         ensures readable { IfSome result IsReadable }
     {
-        integer_type(self.table, place)
+        integer_type(self.table, index)
     }
 
-    /// The array of integers that the type at a place is: the integer, how many, and the place of their type.
-    pub fn number_array(&self, place: u32) -> Option<(Integer, u64, u32)>
-        ensures found { result ≡ array_by self.now.table (slice_get self.now.table.types place) }
+    /// The array of integers that the type at an index is: the integer, how many, and the index of their type.
+    pub fn number_array(&self, index: u32) -> Option<(Integer, u64, u32)>
+        ensures found { result ≡ array_by self.now.table (slice_get self.now.table.types index) }
         ensures readable { IfSome result (λ array. IsReadable array.0) }
     {
-        let TypeMeta::Array { length, item } = self.type_at(place)? else {
+        let TypeMeta::Array { length, item } = self.type_at(index)? else {
             return None;
         };
         let integer = self.number_type(*item)?;
         Some((integer, *length, *item))
     }
 
-    /// The integer of the type at a place.
-    pub fn integer_at(&self, place: u32) -> Option<Integer>
-        ensures found { result ≡ integer_of (slice_get self.now.table.types place) }
+    /// The integer of the type at an index.
+    pub fn integer_at(&self, index: u32) -> Option<Integer>
+        ensures found { result ≡ integer_of (slice_get self.now.table.types index) }
         ensures readable { IfSome result IsReadable }
     {
-        integer_of(self.type_at(place)?)
+        integer_of(self.type_at(index)?)
     }
 
-    /// What the type at a place is aligned to.
-    pub fn align_at(&self, place: u32) -> u32
-        ensures said { result ≡ align_at self.now.table place }
+    /// What the type at an index is aligned to.
+    pub fn align_at(&self, index: u32) -> u32
+        ensures said { result ≡ align_at self.now.table index }
         ensures aligns { (1 ≤ result) × (65536 % result ≡ 0) }
     {
-        if (place as usize) < self.table.len() {
-            self.table.type_size(place).align
+        if (index as usize) < self.table.len() {
+            self.table.type_size(index).align
         } else {
             8
         }
     }
 
-    /// The number that a field path leads to, with the place of its type.
+    /// The number that a field path leads to, with the index of its type.
     pub fn number_at(
         &self,
         open_structs: &[OpenStruct],
@@ -122,7 +122,7 @@ impl<'a> Source<'a> {
         number_at(self.table, self.scopes, open_structs, field_path)
     }
 
-    /// The integer from this place on, and the place after it.
+    /// The integer from this bit on, and the bit after it.
     #[inline(always)]
     pub fn read_integer(&self, integer: Integer, at: u64) -> Option<(i128, u64)>
         requires at { at ≤ 2 ^ 63 }
@@ -154,7 +154,7 @@ impl<'a> Source<'a> {
         }
     }
 
-    /// The string from this place on.
+    /// The string from this bit on.
     pub fn read_text(&self, alloc: Global, at: u64) -> Result<(Field, u64), FieldError>
         requires { at ≤ 2 ^ 63 }
         ensures gives { Gives (leaf variant.Text (text_read self.now.bytes self.now.end at)) result }

@@ -1,4 +1,4 @@
-//! Types by their places.
+//! Types by their indices.
 ghost use Rattle.std.specs.Prelude.{◌≡◌, IfSome, Some, slice_get};
 ghost use Rattle.std.specs.Option.{option_copied};
 ghost use Rattle.ctf_fields.specs.Leaves.{IsReadable};
@@ -7,13 +7,13 @@ ghost use Rattle.type_table.specs.Table.{IsSound};
 
 use type_table::{Integer, Table, TypeMeta};
 
-/// The type at a place.
-pub fn type_at(table: &Table, place: u32) -> Option<&TypeMeta>
-    ensures found { option_copied result ≡ slice_get table.now.types place }
+/// The type at an index.
+pub fn type_at(table: &Table, index: u32) -> Option<&TypeMeta>
+    ensures found { option_copied result ≡ slice_get table.now.types index }
     ensures sound { IfSome result (λ ty. IsSound ty.now) }
 {
-    if (place as usize) < table.len() {
-        Some(table.get(place))
+    if (index as usize) < table.len() {
+        Some(table.get(index))
     } else {
         None
     }
@@ -43,12 +43,12 @@ pub fn integer_of(meta: &TypeMeta) -> Option<Integer>
     }
 }
 
-/// The integer that the type at a place is, or that it is an enumeration of.
-pub fn integer_type(table: &Table, place: u32) -> Option<Integer>
-    ensures found { result ≡ integer_type table.now place }
+/// The integer that the type at an index is, or that it is an enumeration of.
+pub fn integer_type(table: &Table, index: u32) -> Option<Integer>
+    ensures found { result ≡ integer_type table.now index }
     ensures readable { IfSome result IsReadable }
 {
-    match type_at(table, place)? {
+    match type_at(table, index)? {
         TypeMeta::Enum { base, .. } => integer_of(type_at(table, *base)?),
         meta => integer_of(meta),
     }

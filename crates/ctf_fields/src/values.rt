@@ -8,7 +8,7 @@ use crate::field::Field;
 use crate::named::first_named;
 use type_table::Table;
 
-/// The number that a field is, with the place of its type.
+/// The number that a field is, with the index of its type.
 pub fn number_of(field: Option<&Field>) -> Option<(i128, u32)>
     ensures { result ≡ number_of (option_copied field.entry) }
 {
@@ -18,7 +18,7 @@ pub fn number_of(field: Option<&Field>) -> Option<(i128, u32)>
     }
 }
 
-/// The number of the first field of a name, with the place of its type.
+/// The number of the first field of a name, with the index of its type.
 pub fn number_named(table: &Table, text: &[u8], field: Option<&Field>) -> Option<(i128, u32)>
     ensures { result ≡ number_named table.now text.now (option_copied field.entry) }
 {

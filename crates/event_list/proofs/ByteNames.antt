@@ -2,8 +2,8 @@
 use Rattle.std.proofs.Common.{◌≡◌, ◌≢◌, true≢false, Bor, ℕ, ◌≤◌, ◌<◌, ◌/◌, ◌%◌, Bool, true, false, if◌then◌else◌, List, [], ◌∷◌, ◌++◌, length, refl, sym, ap, ◌∙◌, subst, append-nil, length-append, arith}
 use Rattle.std.specs.Prelude.{flat_map}
 use Rattle.trace_types.specs.ByteTexts.{IsByteText, byte_text, spelled, is_plain, hex_digit}
-use Rattle.event_list.specs.declared.name_word.NameWord.{NameWord}
-use Rattle.event_list.specs.NameWords.{IsNamed, may_name}
+use Rattle.trace_types.specs.declared.event_kind.EventKind.{EventKind}
+use Rattle.event_list.specs.NamedKinds.{IsNamed, may_name}
 use Rattle.event_list.proofs.WordLists.{word, word_is, texts}
 use Rattle.trace_types.proofs.Names.{tail_of}
 use Rattle.event_list.specs.Lines.{AreBytes}
@@ -39,7 +39,7 @@ one_name (x ∷ xs) (y ∷ ys) h g e =
     sym (t.1 ∙ (ap (λ l. (x ∷ xs) ++ l) (none_left t.0 t.2) ∙ append-nil (x ∷ xs)))
 
 -- a field that spells a name spells no other
-pub no_other : (w : NameWord) (ws : List (Bor (List ℕ))) (name : List ℕ) → 1 ≤ length ws → length ws < 2 → IsByteText (word ws 0) name → may_name w name ≡ false → (other : List ℕ) → ¬ (IsNamed w (texts ws) other)
-no_other w ws name low high is may other named =
+pub no_other : (kind : EventKind) (ws : List (Bor (List ℕ))) (name : List ℕ) → 1 ≤ length ws → length ws < 2 → IsByteText (word ws 0) name → may_name kind name ≡ false → (other : List ℕ) → ¬ (IsNamed kind (texts ws) other)
+no_other kind ws name low high is may other named =
     let same : name ≡ other = one_name name other is.are_bytes named.are_bytes (sym is.spelling ∙ word_is ws _ 0 named.spelled) in
-    true≢false (sym named.may ∙ (ap (may_name w) (sym same) ∙ may))
+    true≢false (sym named.may ∙ (ap (may_name kind) (sym same) ∙ may))

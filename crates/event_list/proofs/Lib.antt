@@ -4,7 +4,6 @@ pub mod KindWords
 pub mod Spelling
 pub mod Reading
 pub mod KindViews
-pub mod NameLines
 pub mod ByteNames
 pub mod Numbered
 pub mod Options

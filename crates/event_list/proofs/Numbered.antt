@@ -11,15 +11,12 @@ use Rattle.indexmap.specs.IndexSet.{insert_key}
 use Rattle.trace_types.specs.declared.event.Merged.{Merged}
 use Rattle.trace_types.specs.declared.event.KernelEvent.{KernelEvent}
 use Rattle.event_list.specs.declared.parsed_line.ParsedLine.{ParsedLine}
-use Rattle.event_list.specs.declared.name_word.NameWord.{NameWord}
-use Rattle.event_list.specs.declared.name_word.NameWord.TheVariants.{CallIn, CallOut, Other}
 use Rattle.event_list.specs.declared.numbering.Numbering.{Numbering}
 use Rattle.event_list.specs.Lines.{IsParsedLine, events_of, kind_words, line_text, name_at, parsed_text, IsKind}
 use Rattle.event_list.specs.Names.{carries_name, names_at, names_of, names_parsed, numbered_in, same_name, with_number}
 use Rattle.event_list.specs.Numbering.{Adds, IsHeld, IsNumbered}
-use Rattle.event_list.specs.NameWords.{kind_with}
 use Rattle.event_list.specs.Order.{host_count, RiseFrom}
-use Rattle.event_list.proofs.KindViews.{by_kind, IsNamedKind, IsPlainKind}
+use Rattle.event_list.proofs.KindViews.{by_kind}
 
 abbrev Names : Type 0
 Names = List (List ℕ)
@@ -88,27 +85,11 @@ found_at k (y ∷ ys) h = by (same_name k y) refl h (found_at k ys)
 -- ---- kinds
 
 stays : (n : ℕ) (name : List ℕ) (k : KernelEvent) → IsKind name k → carries_name k ≡ false → with_number n k ≡ k
-stays n name k h e = elim (by_kind name k h) [ inl p ↦ p.stays n | inr m ↦ absurd (true≢false (sym (carried m.word) ∙ (ap carries_name (sym m.is) ∙ e))) ]
-  where
-    carried : (w : NameWord) → carries_name (kind_with w 0) ≡ true
-    carried CallIn = refl
-    carried CallOut = refl
-    carried Other = refl
+stays n name k h e = elim (by_kind name k h) [ inl p ↦ p.stays n | inr m ↦ absurd (true≢false (sym m.carried ∙ e)) ]
 
 -- an event with the place of its name has its own line
 kind_again : (names : Names) (name : List ℕ) (k : KernelEvent) → IsKind name k → (carries_name k ≡ true → list_any (same_name name) names ≡ true) → kind_words (name ∷ []) k ≡ kind_words names (with_number (position_or_len (same_name name) names) k)
-kind_again names name k h held = elim (by_kind name k h) [ inl p ↦ plainly p | inr n ↦ named n ]
-  where
-    plainly : IsPlainKind name k → kind_words (name ∷ []) k ≡ kind_words names (with_number (position_or_len (same_name name) names) k)
-    plainly p = rw (p.stays (position_or_len (same_name name) names)) (p.words (name ∷ []) ∙ sym (p.words names))
-
-    of_word : (w : NameWord) → (carries_name (kind_with w 0) ≡ true → list_any (same_name name) names ≡ true) → kind_words (name ∷ []) (kind_with w 0) ≡ kind_words names (with_number (position_or_len (same_name name) names) (kind_with w 0))
-    of_word CallIn held = rw (found_at name names (held refl)) refl
-    of_word CallOut held = rw (found_at name names (held refl)) refl
-    of_word Other held = rw (found_at name names (held refl)) refl
-
-    named : IsNamedKind name k → kind_words (name ∷ []) k ≡ kind_words names (with_number (position_or_len (same_name name) names) k)
-    named n = subst (λ k. kind_words (name ∷ []) k ≡ kind_words names (with_number (position_or_len (same_name name) names) k)) (sym n.is) (of_word n.word (λ e. held (ap carries_name n.is ∙ e)))
+kind_again names name k h held = elim (by_kind name k h) [ inl p ↦ (rw (p.stays (position_or_len (same_name name) names)) (p.words (name ∷ []) names)) | inr n ↦ n.again names _ (found_at name names (held n.carried)) ]
 
 -- ---- lines and tables
 

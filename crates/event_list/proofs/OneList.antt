@@ -13,19 +13,18 @@ use Rattle.trace_types.proofs.OneByteText.{same_text}
 use Rattle.trace_types.specs.declared.event.KernelEvent.{KernelEvent}
 use Rattle.trace_types.specs.declared.event.KernelEvent.TheVariants as kind
 use Rattle.trace_types.specs.declared.segment.SegKey.{SegKey}
-use Rattle.event_list.specs.declared.kind_word.KindWord.{KindWord}
-use Rattle.event_list.specs.declared.kind_word.KindWord.TheVariants.{Switch, Wakeup, WakeupNew, Waking, Fork, Exit, Free, Migrate, IrqIn, IrqOut, SoftIn, SoftOut, Process, Send, Receive, DiskIssue, DiskDone, Lost}
-use Rattle.event_list.specs.declared.name_word.NameWord.{NameWord}
+use Rattle.trace_types.specs.EventKinds.{kind_of_event}
+use Rattle.trace_types.specs.declared.event_kind.EventKind.{EventKind}
+use Rattle.trace_types.specs.declared.event_kind.EventKind.TheVariants.{Switch, Wakeup, WakeupNew, Waking, Fork, Exit, Free, Migrate, IrqIn, IrqOut, SoftIn, SoftOut, Process, Send, Receive, DiskIssue, DiskDone, Lost}
 use Rattle.event_list.specs.declared.parsed_line.ParsedLine.{ParsedLine}
 use Rattle.event_list.specs.declared.trace.MergedTrace.{MergedTrace}
 use Rattle.event_list.specs.Kinds.{IsLost, IsOf, IsOne, IsRequest, IsSegment, IsWakeup}
-use Rattle.event_list.specs.Lines.{IsEventList, IsKind, IsPlain, IsParsedLine, first_line, kind_words, plain_words, parsed_text, parsed_words}
+use Rattle.event_list.specs.Lines.{IsEventList, IsKind, IsParsedLine, field_words, first_line, kind_words, parsed_text, parsed_words}
 use Rattle.event_list.specs.Names.{IsTrace, names_of, numbered}
 use Rattle.event_list.specs.Order.{host_count}
-use Rattle.event_list.specs.NameWords as names
-use Rattle.event_list.proofs.KindViews.{IsNamedKind, IsPlainKind, by_kind, named_words}
-use Rattle.event_list.proofs.KindWords.{first_is, has_word, rest_is, same_word}
-use Rattle.event_list.proofs.NameLines.{apart, same_name_word}
+use Rattle.event_list.specs.NamedKinds.{named_event}
+use Rattle.event_list.proofs.KindViews.{IsNamedKind, IsPlainKind, by_kind}
+use Rattle.event_list.proofs.KindWords.{first_is, none_or_some, one_some, rest_is, same_word}
 use Rattle.event_list.proofs.Spelling.{are_words, joined_no_end, mag_32, mag_64, split_joined, wide}
 use Rattle.event_list.proofs.Reading.{line_and, nonempty}
 
@@ -100,7 +99,7 @@ loss fields m n a b h g =
     let gap = same_gap a b (same_decimal (gap_number a) (gap_number b) 2 (gap_below a) (gap_below b) (omega arith) (cc)) in
     λ i. kind.Lost (events i) (gap i)
 
-one_of : (w : KindWord) (fields : List (List ℕ)) (k l : KernelEvent) → IsOf w fields k → IsOf w fields l → k ≡ l
+one_of : (w : EventKind) (fields : List (List ℕ)) (k l : KernelEvent) → IsOf w fields k → IsOf w fields l → k ≡ l
 one_of Switch fields k l (s, pt, nt, pp, np, pc, nc, h, e) (s', pt', nt', pp', np', pc', nc', g, f) =
     let all : decimal pt ∷ byte_text pc ∷ signed_decimal pp ∷ signed_decimal s ∷ decimal nt ∷ byte_text nc ∷ signed_decimal np ∷ [] ≡ decimal pt' ∷ byte_text pc' ∷ signed_decimal pp' ∷ signed_decimal s' ∷ decimal nt' ∷ byte_text nc' ∷ signed_decimal np' ∷ [] = sym h.spelled ∙ g.spelled in
     let prev = small pt pt' h.fit.0 g.fit.0 (cc) in
@@ -143,31 +142,30 @@ one_of IrqIn fields k l (m, h, e) (n, g, f) = e ∙ (ap kind.IrqIn (one_number f
 one_of IrqOut fields k l (m, h, e) (n, g, f) = e ∙ (ap kind.IrqOut (one_number fields m n h g) ∙ sym f)
 one_of SoftIn fields k l (m, h, e) (n, g, f) = e ∙ (ap kind.SoftIn (one_number fields m n h g) ∙ sym f)
 one_of SoftOut fields k l (m, h, e) (n, g, f) = e ∙ (ap kind.SoftOut (one_number fields m n h g) ∙ sym f)
+one_of w fields k l h g = absurd h
 
 -- ---- words are one event's
-
-same_plain : (k l : KernelEvent) → IsPlain k → IsPlain l → plain_words k ≡ plain_words l → k ≡ l
-same_plain k l h g e =
-    let a = has_word k h in
-    let b = has_word l g in
-    let all = sym a.spelled ∙ (e ∙ b.spelled) in
-    let word = same_word a.word b.word (first_is _ _ _ _ all) in
-    one_of a.word a.fields k l (a.is h) (subst (λ w. IsOf w a.fields l) (sym word) (subst (λ fs. IsOf b.word fs l) (sym (rest_is _ _ _ _ all)) (b.is g)))
-
-not_named : (k : KernelEvent) (w : NameWord) (name : List ℕ) → IsPlain k → plain_words k ≢ names.spelling w ∷ byte_text name ∷ []
-not_named k w name h e = let a = has_word k h in apart w a.word (first_is _ _ _ _ (sym e ∙ a.spelled))
 
 same_kind : (m n : List ℕ) (k l : KernelEvent) → IsKind m k → IsKind n l → kind_words (m ∷ []) k ≡ kind_words (n ∷ []) l → (m ≡ n) × (k ≡ l)
 same_kind m n k l h g e = by (by_kind m k h) (by_kind n l g)
   where
+    kind_is : kind_of_event k ≡ kind_of_event l
+    kind_is = same_word (kind_of_event k) (kind_of_event l) (first_is _ _ _ _ e)
+
+    fields_are : field_words (m ∷ []) k ≡ field_words (n ∷ []) l
+    fields_are = rest_is _ _ _ _ e
+
     by : IsPlainKind m k ⊎ IsNamedKind m k → IsPlainKind n l ⊎ IsNamedKind n l → (m ≡ n) × (k ≡ l)
-    by (inl a) (inl b) = (a.empty ∙ sym b.empty, same_plain k l a.plain b.plain (sym (a.words (m ∷ [])) ∙ (e ∙ b.words (n ∷ []))))
-    by (inl a) (inr b) = absurd (not_named k b.word n a.plain (sym (a.words (m ∷ [])) ∙ (e ∙ named_words n l b)))
-    by (inr a) (inl b) = absurd (not_named l a.word m b.plain (sym (b.words (n ∷ [])) ∙ (sym e ∙ named_words m k a)))
-    by (inr a) (inr b) =
-        let all = sym (named_words m k a) ∙ (e ∙ named_words n l b) in
-        let word = same_name_word a.word b.word (first_is _ _ _ _ all) in
-        (same_text m n a.are_bytes b.are_bytes (first_is _ _ _ _ (rest_is _ _ _ _ all)), a.is ∙ (ap (λ w. names.kind_with w 0) word ∙ sym b.is))
+    by (inl a) (inl b) = (
+      a.empty ∙ sym b.empty,
+      one_of (kind_of_event k) (field_words (m ∷ []) k) k l (a.fields (m ∷ [])) (subst (λ w. IsOf w (field_words (m ∷ []) k) l) (sym kind_is) (subst (λ fs. IsOf (kind_of_event l) fs l) (sym fields_are) (b.fields (n ∷ [])))),
+    )
+    by (inl a) (inr b) = absurd (none_or_some l _ (ap named_event (sym kind_is) ∙ a.unnamed) b.named)
+    by (inr a) (inl b) = absurd (none_or_some k _ (ap named_event kind_is ∙ b.unnamed) a.named)
+    by (inr a) (inr b) = (
+      same_text m n a.field.are_bytes b.field.are_bytes (first_is _ _ _ _ (sym a.field.spelled ∙ (fields_are ∙ b.field.spelled))),
+      one_some k l (sym a.named ∙ (ap named_event kind_is ∙ b.named)),
+    )
 
 same_told : (t u : ParsedLine) → IsParsedLine t → IsParsedLine u → parsed_words t ≡ parsed_words u → t ≡ u
 same_told t u h g e =

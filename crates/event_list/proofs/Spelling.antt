@@ -12,14 +12,14 @@ use Rattle.trace_types.specs.ByteTexts.{byte_text, spelled, is_plain, hex_digit}
 use Rattle.trace_types.proofs.Decimals.{below_wide, decimal_high}
 use Rattle.trace_types.proofs.Everywhere.{all_weaker, all_both}
 use Rattle.event_list.specs.declared.parsed_line.ParsedLine.{ParsedLine}
-use Rattle.event_list.specs.declared.name_word.NameWord.{NameWord}
-use Rattle.event_list.specs.declared.name_word.NameWord.TheVariants.{CallIn, CallOut, Other}
-use Rattle.event_list.specs.NameWords.{spelling}
-use Rattle.event_list.proofs.KindViews.{by_kind, named_words}
+use Rattle.trace_types.specs.EventKinds.{kind_of_event, word_of}
+use Rattle.trace_types.specs.declared.event_kind.EventKind.{EventKind}
+use Rattle.trace_types.specs.declared.event_kind.EventKind.TheVariants as event_kind
+use Rattle.event_list.proofs.KindViews.{by_kind}
 use Rattle.trace_types.specs.declared.event.KernelEvent.{KernelEvent}
 use Rattle.trace_types.specs.declared.event.KernelEvent.TheVariants.{Switch, Wakeup, WakeupNew, Waking, Fork, Exit, Free, Migrate, IrqIn, IrqOut, SoftIn, SoftOut, Process, Send, Receive, DiskIssue, DiskDone, Lost}
 use Rattle.trace_types.specs.declared.segment.SegKey.{SegKey}
-use Rattle.event_list.specs.Lines.{kind_words, plain_words, woken_words, segment_words, request_words, IsSegKey, IsRequested, parsed_words, IsKind, IsPlain, IsWoken, IsParsedLine}
+use Rattle.event_list.specs.Lines.{field_words, kind_words, woken_words, segment_words, request_words, IsSegKey, IsRequested, parsed_words, IsKind, IsPlain, IsWoken, IsParsedLine}
 
 -- every byte of the word is past the space
 abbrev pub IsWord : List ℕ → Type 0
@@ -104,37 +104,55 @@ one_word : (gap : Bool) → IsWord (decimal (if gap then 1 else 0))
 one_word true = number 1 2 (omega arith) (omega arith)
 one_word false = number 0 2 (omega arith) (omega arith)
 
-plain_are_words : (k : KernelEvent) → IsPlain k → AreWords (plain_words k)
-plain_are_words (Switch s pt nt pp np pc nc) h =
+plain_are_words : (names : List (List ℕ)) (k : KernelEvent) → IsPlain k → AreWords (field_words names k)
+plain_are_words names (Switch s pt nt pp np pc nc) h =
     let prev : IsWord (decimal pt) = number pt (2 ^ 31) h.0 (omega arith) in
     let next : IsWord (decimal nt) = number nt (2 ^ 31) h.4 (omega arith) in
-    (search rules, (prev, (byte_text_word pc, (signed_word pp (mag_32 pp h.2), (signed_word s (mag_64 s h.3), (next, (byte_text_word nc, (signed_word np (mag_32 np h.6), tt))))))))
-plain_are_words (Wakeup tid comm prio cpu) h = (search rules, woken_are_words tid comm prio cpu h)
-plain_are_words (WakeupNew tid comm prio cpu) h = (search rules, woken_are_words tid comm prio cpu h)
-plain_are_words (Waking tid comm prio cpu) h = (search rules, woken_are_words tid comm prio cpu h)
-plain_are_words (Fork parent child comm) h = (search rules, (small parent h.0, (small child h.1, (byte_text_word comm, tt))))
-plain_are_words (Exit tid) h = (search rules, (small tid h, tt))
-plain_are_words (Free tid) h = (search rules, (small tid h, tt))
-plain_are_words (Migrate tid cpu) h = (search rules, (small tid h.0, (small cpu h.1, tt)))
-plain_are_words (IrqIn irq) h = (search rules, (small irq h, tt))
-plain_are_words (IrqOut irq) h = (search rules, (small irq h, tt))
-plain_are_words (SoftIn vec) h = (search rules, (small vec h, tt))
-plain_are_words (SoftOut vec) h = (search rules, (small vec h, tt))
-plain_are_words (Process tid ppid name status) h = (search rules, (small tid h.0, (small ppid h.1, (byte_text_word name, (small status h.3, tt)))))
-plain_are_words (Send key) h = (search rules, segment_are_words key h)
-plain_are_words (Receive key) h = (search rules, segment_are_words key h)
-plain_are_words (DiskIssue sector dev count) h = (search rules, request_are_words sector dev count h)
-plain_are_words (DiskDone sector dev count) h = (search rules, request_are_words sector dev count h)
-plain_are_words (Lost events gap) h = (search rules, (decimal_word events (wide events h), (one_word gap, tt)))
-plain_are_words k h = absurd h
+    (prev, (byte_text_word pc, (signed_word pp (mag_32 pp h.2), (signed_word s (mag_64 s h.3), (next, (byte_text_word nc, (signed_word np (mag_32 np h.6), tt)))))))
+plain_are_words names (Wakeup tid comm prio cpu) h = woken_are_words tid comm prio cpu h
+plain_are_words names (WakeupNew tid comm prio cpu) h = woken_are_words tid comm prio cpu h
+plain_are_words names (Waking tid comm prio cpu) h = woken_are_words tid comm prio cpu h
+plain_are_words names (Fork parent child comm) h = (small parent h.0, (small child h.1, (byte_text_word comm, tt)))
+plain_are_words names (Exit tid) h = (small tid h, tt)
+plain_are_words names (Free tid) h = (small tid h, tt)
+plain_are_words names (Migrate tid cpu) h = (small tid h.0, (small cpu h.1, tt))
+plain_are_words names (IrqIn irq) h = (small irq h, tt)
+plain_are_words names (IrqOut irq) h = (small irq h, tt)
+plain_are_words names (SoftIn vec) h = (small vec h, tt)
+plain_are_words names (SoftOut vec) h = (small vec h, tt)
+plain_are_words names (Process tid ppid name status) h = (small tid h.0, (small ppid h.1, (byte_text_word name, (small status h.3, tt))))
+plain_are_words names (Send key) h = segment_are_words key h
+plain_are_words names (Receive key) h = segment_are_words key h
+plain_are_words names (DiskIssue sector dev count) h = request_are_words sector dev count h
+plain_are_words names (DiskDone sector dev count) h = request_are_words sector dev count h
+plain_are_words names (Lost events gap) h = (decimal_word events (wide events h), (one_word gap, tt))
+plain_are_words names k h = absurd h
 
-name_word : (w : NameWord) → IsWord (spelling w)
-name_word CallIn = search rules
-name_word CallOut = search rules
-name_word Other = search rules
+word_is_word : (kind : EventKind) → IsWord (word_of kind)
+word_is_word event_kind.Switch = search rules
+word_is_word event_kind.Wakeup = search rules
+word_is_word event_kind.WakeupNew = search rules
+word_is_word event_kind.Waking = search rules
+word_is_word event_kind.Fork = search rules
+word_is_word event_kind.Exit = search rules
+word_is_word event_kind.Free = search rules
+word_is_word event_kind.Migrate = search rules
+word_is_word event_kind.IrqIn = search rules
+word_is_word event_kind.IrqOut = search rules
+word_is_word event_kind.SoftIn = search rules
+word_is_word event_kind.SoftOut = search rules
+word_is_word event_kind.Process = search rules
+word_is_word event_kind.CallIn = search rules
+word_is_word event_kind.CallOut = search rules
+word_is_word event_kind.Send = search rules
+word_is_word event_kind.Receive = search rules
+word_is_word event_kind.DiskIssue = search rules
+word_is_word event_kind.DiskDone = search rules
+word_is_word event_kind.Lost = search rules
+word_is_word event_kind.Other = search rules
 
 kind_are_words : (name : List ℕ) (k : KernelEvent) → IsKind name k → AreWords (kind_words (name ∷ []) k)
-kind_are_words name k h = elim (by_kind name k h) [ inl p ↦ subst AreWords (sym (p.words (name ∷ []))) (plain_are_words k p.plain) | inr n ↦ subst AreWords (sym (named_words name k n)) (name_word n.word, (byte_text_word name, tt)) ]
+kind_are_words name k h = (word_is_word (kind_of_event k), elim (by_kind name k h) [ inl p ↦ plain_are_words (name ∷ []) k p.plain | inr n ↦ subst AreWords (sym n.field.spelled) (byte_text_word name, tt) ])
 
 pub are_words : (t : ParsedLine) → IsParsedLine t → AreWords (parsed_words t)
 are_words t h =

@@ -7,16 +7,16 @@ use Rattle.std.proofs.Math.Seq.{take-length}
 use Rattle.std.proofs.lemmas.List.{length-map}
 use Rattle.event_list.specs.declared.parsed_line.ParsedLine.{ParsedLine}
 use Rattle.event_list.specs.declared.parsed_line.ParsedKind.{ParsedKind}
-use Rattle.event_list.specs.declared.place.Place.{Place}
+use Rattle.event_list.specs.declared.line_head.LineHead.{LineHead}
 use Rattle.trace_types.proofs.Decimals.{same_number, below_wide}
 use Rattle.trace_types.specs.declared.event.KernelEvent.{KernelEvent}
 use Rattle.trace_types.specs.declared.event.KernelEvent.TheVariants.{Switch}
 use Rattle.event_list.specs.declared.thread.NamedThread.{NamedThread}
 use Rattle.event_list.specs.Threads.{IsThread}
-use Rattle.event_list.specs.declared.kind_word.KindWord.TheVariants as word_kind
+use Rattle.trace_types.specs.declared.event_kind.EventKind.TheVariants as event_kind
 use Rattle.trace_types.specs.declared.segment.SegKey.{SegKey}
 use Rattle.event_list.specs.Kinds.{IsWakeup, IsSegment, IsOf}
-use Rattle.event_list.specs.Lines.{kind_words, IsKindLine, IsLine, IsPlace, IsSegKey}
+use Rattle.event_list.specs.Lines.{kind_words, IsKindLine, IsLine, IsLineHead, IsSegKey}
 
 -- the word at a place, none past the end
 abbrev pub word : List (Bor (List ℕ)) → ℕ → List ℕ
@@ -46,7 +46,7 @@ seven (a ∷ b ∷ c ∷ d ∷ e ∷ f ∷ g ∷ h ∷ ws) low high = absurd (om
 
 -- the seven words of a switch
 pub switch_found : (ws : List (Bor (List ℕ))) (prev next : NamedThread) (state : ℤ) → 7 ≤ length ws → length ws < 8 → IsThread (word ws 0) (word ws 1) (word ws 2) prev → IsSigned (word ws 3) state → FitsSigned w64 state
-    → IsThread (word ws 4) (word ws 5) (word ws 6) next → IsOf word_kind.Switch (texts ws) (Switch state prev.tid next.tid prev.prio next.prio prev.comm next.comm)
+    → IsThread (word ws 4) (word ws 5) (word ws 6) next → IsOf event_kind.Switch (texts ws) (Switch state prev.tid next.tid prev.prio next.prio prev.comm next.comm)
 switch_found ws prev next state low high p s fits n = (
   state,
   prev.tid,
@@ -74,15 +74,15 @@ pub no_flags : (ws : List (Bor (List ℕ))) → ((n : ℕ) → n < 2 ^ 16 → ¬
 no_flags ws none key is = none key.flags is.fit.6 (word_is ws _ 6 is.spelled)
 
 -- where the words of a thread are none, the line is of no switch
-pub no_prev : (ws : List (Bor (List ℕ))) → ((t : NamedThread) → ¬ (IsThread (word ws 0) (word ws 1) (word ws 2) t)) → (k : KernelEvent) → ¬ (IsOf word_kind.Switch (texts ws) k)
+pub no_prev : (ws : List (Bor (List ℕ))) → ((t : NamedThread) → ¬ (IsThread (word ws 0) (word ws 1) (word ws 2) t)) → (k : KernelEvent) → ¬ (IsOf event_kind.Switch (texts ws) k)
 no_prev ws none k (s, pt, nt, pp, np, pc, nc, is, same) =
     let e = is.spelled in
     none (record { tid = pt; prio = pp; comm = pc }) (record { is_tid = word_is ws _ 0 e; tid_below = is.fit.0; is_comm = record { spelling = word_is ws _ 1 e; is_name = is.fit.1 }; is_prio = word_is ws _ 2 e; prio_fits = is.fit.2 })
 
-pub no_state : (ws : List (Bor (List ℕ))) → ((z : ℤ) → FitsSigned w64 z → ¬ (IsSigned (word ws 3) z)) → (k : KernelEvent) → ¬ (IsOf word_kind.Switch (texts ws) k)
+pub no_state : (ws : List (Bor (List ℕ))) → ((z : ℤ) → FitsSigned w64 z → ¬ (IsSigned (word ws 3) z)) → (k : KernelEvent) → ¬ (IsOf event_kind.Switch (texts ws) k)
 no_state ws none k (s, pt, nt, pp, np, pc, nc, is, same) = none s is.fit.3 (word_is ws _ 3 is.spelled)
 
-pub no_next : (ws : List (Bor (List ℕ))) → ((t : NamedThread) → ¬ (IsThread (word ws 4) (word ws 5) (word ws 6) t)) → (k : KernelEvent) → ¬ (IsOf word_kind.Switch (texts ws) k)
+pub no_next : (ws : List (Bor (List ℕ))) → ((t : NamedThread) → ¬ (IsThread (word ws 4) (word ws 5) (word ws 6) t)) → (k : KernelEvent) → ¬ (IsOf event_kind.Switch (texts ws) k)
 no_next ws none k (s, pt, nt, pp, np, pc, nc, is, same) =
     let e = is.spelled in
     none (record { tid = nt; prio = np; comm = nc }) (record { is_tid = word_is ws _ 4 e; tid_below = is.fit.4; is_comm = record { spelling = word_is ws _ 5 e; is_name = is.fit.5 }; is_prio = word_is ws _ 6 e; prio_fits = is.fit.6 })
@@ -97,7 +97,7 @@ pub no_target : (ws : List (Bor (List ℕ))) → ((n : ℕ) → n < 2 ^ 31 → �
 no_target ws none tid comm prio cpu is = none cpu is.fit.3 (word_is ws _ 3 is.spelled)
 
 -- no event has the time 0
-pub no_time : (key host cpu time : List ℕ) (t : ℕ) → IsNumber time t → t ≡ 0 → (p : Place) → ¬ (IsPlace key host cpu time p)
+pub no_time : (key host cpu time : List ℕ) (t : ℕ) → IsNumber time t → t ≡ 0 → (p : LineHead) → ¬ (IsLineHead key host cpu time p)
 no_time key host cpu time t is zero_time p place =
     let e : decimal t ≡ decimal p.time = sym is ∙ place.time_is in
     let same : t ≡ p.time = same_number t p.time (below_wide t 1 (omega (arith, zero_time)) (omega arith)) (below_wide p.time (2 ^ 62) place.time_in.1 (omega arith)) e in
@@ -106,11 +106,11 @@ no_time key host cpu time t is zero_time p place =
 behind : (a b c d : Bor (List ℕ)) (vs : List (Bor (List ℕ))) → take (length (a ∷ b ∷ c ∷ d ∷ vs) - 4) vs ≡ vs
 behind a b c d vs = ap (λ n. take n vs) (omega arith) ∙ take-length vs
 
-abbrev pub parsed_line_of : Place → ParsedKind → ParsedLine
+abbrev pub parsed_line_of : LineHead → ParsedKind → ParsedLine
 parsed_line_of p k = record { event = record { key = p.key; event = record { time = p.time; host = p.host; cpu = p.cpu; kind = k.kind } }; name = k.name }
 
 -- four words of a place, and those of a kind
-pub line_there : (ws : List (Bor (List ℕ))) (p : Place) (k : ParsedKind) → 4 ≤ length ws → IsPlace (word ws 0) (word ws 1) (word ws 2) (word ws 3) p → IsKindLine (texts (take (length ws - 4) (drop 4 ws))) k → IsLine (texts ws) (parsed_line_of p k)
+pub line_there : (ws : List (Bor (List ℕ))) (p : LineHead) (k : ParsedKind) → 4 ≤ length ws → IsLineHead (word ws 0) (word ws 1) (word ws 2) (word ws 3) p → IsKindLine (texts (take (length ws - 4) (drop 4 ws))) k → IsLine (texts ws) (parsed_line_of p k)
 line_there (a ∷ b ∷ c ∷ d ∷ vs) p k some place line =
     let spelled : texts vs ≡ kind_words (k.name ∷ []) k.kind = ap texts (sym (behind a b c d vs)) ∙ line.spelling in
     record {
@@ -122,11 +122,11 @@ line_there (a ∷ []) p k some place line = absurd (omega (arith, some))
 line_there (a ∷ b ∷ []) p k some place line = absurd (omega (arith, some))
 line_there (a ∷ b ∷ c ∷ []) p k some place line = absurd (omega (arith, some))
 
-abbrev pub place_of : ParsedLine → Place
+abbrev pub place_of : ParsedLine → LineHead
 place_of t = record { key = t.event.key; host = t.event.event.host; cpu = t.event.event.cpu; time = t.event.event.time }
 
-pub no_place_there : (ws : List (Bor (List ℕ))) → ((p : Place) → ¬ (IsPlace (word ws 0) (word ws 1) (word ws 2) (word ws 3) p)) → (t : ParsedLine) → ¬ (IsLine (texts ws) t)
-no_place_there ws none t line =
+pub no_line_head_there : (ws : List (Bor (List ℕ))) → ((p : LineHead) → ¬ (IsLineHead (word ws 0) (word ws 1) (word ws 2) (word ws 3) p)) → (t : ParsedLine) → ¬ (IsLine (texts ws) t)
+no_line_head_there ws none t line =
     let e = line.spelling in
     let is = line.is_parsed_line in
     none (place_of t) (record { key_is = word_is ws _ 0 e; key_below = is.key; host_is = word_is ws _ 1 e; host_below = is.host; cpu_is = word_is ws _ 2 e; cpu_below = is.cpu; time_is = word_is ws _ 3 e; time_in = is.time })

@@ -1,34 +1,14 @@
--- The words of each kind of event, as its name and its fields.
-use Rattle.std.specs.Prelude.{◌≡◌, Bool, ℕ, ℤ, ◌^◌, ◌<◌, List, [], ◌∷◌, codes}
+-- The fields of each kind of event, as words (this project's own format).
+use Rattle.std.specs.Prelude.{◌≡◌, Bool, ℕ, ℤ, ◌^◌, ◌<◌, List, [], ◌∷◌}
 use Rattle.std.specs.Fmt.{decimal}
 use Rattle.trace_types.specs.ByteTexts.{byte_text}
 use Rattle.trace_types.specs.Comms.{IsName}
 use Rattle.trace_types.specs.declared.event.KernelEvent.{KernelEvent}
 use Rattle.trace_types.specs.declared.event.KernelEvent.TheVariants as kind
-use Rattle.event_list.specs.declared.kind_word.KindWord.{KindWord}
-use Rattle.event_list.specs.declared.kind_word.KindWord.TheVariants.{Switch, Wakeup, WakeupNew, Waking, Fork, Exit, Free, Migrate, IrqIn, IrqOut, SoftIn, SoftOut, Process, Send, Receive, DiskIssue, DiskDone, Lost}
+use Rattle.trace_types.specs.declared.event_kind.EventKind.{EventKind}
+use Rattle.trace_types.specs.declared.event_kind.EventKind.TheVariants.{Switch, Wakeup, WakeupNew, Waking, Fork, Exit, Free, Migrate, IrqIn, IrqOut, SoftIn, SoftOut, Process, Send, Receive, DiskIssue, DiskDone, Lost}
 use Rattle.trace_types.specs.declared.segment.SegKey.{SegKey}
-use Rattle.event_list.specs.Lines.{switch_words, woken_words, segment_words, request_words, lost_words, IsSwitched, IsWoken, IsSegKey, IsRequested}
-
-abbrev pub spelling : KindWord → List ℕ
-spelling Switch = codes "switch"
-spelling Wakeup = codes "wakeup"
-spelling WakeupNew = codes "wakeup-new"
-spelling Waking = codes "waking"
-spelling Fork = codes "fork"
-spelling Exit = codes "exit"
-spelling Free = codes "free"
-spelling Migrate = codes "migrate"
-spelling IrqIn = codes "irq-in"
-spelling IrqOut = codes "irq-out"
-spelling SoftIn = codes "soft-in"
-spelling SoftOut = codes "soft-out"
-spelling Process = codes "process"
-spelling Send = codes "send"
-spelling Receive = codes "receive"
-spelling DiskIssue = codes "disk-issue"
-spelling DiskDone = codes "disk-done"
-spelling Lost = codes "lost"
+use Rattle.event_list.specs.Lines.{switch_words, woken_words, process_words, segment_words, request_words, lost_words, IsSwitched, IsWoken, IsSegKey, IsRequested}
 
 -- the one field is this number
 pub record IsOne (fields : List (List ℕ)) (n : ℕ) : Type 0 where
@@ -57,7 +37,7 @@ pub record IsTwo (fields : List (List ℕ)) (m n : ℕ) : Type 0 where
 
 -- the fields are those of a thread that was there before
 pub record IsProcess (fields : List (List ℕ)) (tid ppid : ℕ) (name : List ℕ) (status : ℕ) : Type 0 where
-  pub spelled : fields ≡ decimal tid ∷ decimal ppid ∷ byte_text name ∷ decimal status ∷ []
+  pub spelled : fields ≡ process_words tid ppid name status
   pub fit : (tid < 2 ^ 31) × (ppid < 2 ^ 31) × IsName name × (status < 2 ^ 31)
 
 -- the fields are those of a segment
@@ -75,8 +55,8 @@ pub record IsLost (fields : List (List ℕ)) (events : ℕ) (gap : Bool) : Type 
   pub spelled : fields ≡ lost_words events gap
   pub fit : events < 2 ^ 64
 
--- the fields are those of an event whose kind has this name
-abbrev pub IsOf : KindWord → List (List ℕ) → KernelEvent → Type 0
+-- the fields are those of an event of this kind, which carries no name of an event
+abbrev pub IsOf : EventKind → List (List ℕ) → KernelEvent → Type 0
 IsOf Switch fields k = (s : ℤ) × (pt : ℕ) × (nt : ℕ) × (pp : ℤ) × (np : ℤ) × (pc : List ℕ) × (nc : List ℕ) × IsSwitch fields s pt nt pp np pc nc × (k ≡ kind.Switch s pt nt pp np pc nc)
 IsOf Wakeup fields k = (tid : ℕ) × (comm : List ℕ) × (prio : ℤ) × (cpu : ℕ) × IsWakeup fields tid comm prio cpu × (k ≡ kind.Wakeup tid comm prio cpu)
 IsOf WakeupNew fields k = (tid : ℕ) × (comm : List ℕ) × (prio : ℤ) × (cpu : ℕ) × IsWakeup fields tid comm prio cpu × (k ≡ kind.WakeupNew tid comm prio cpu)
@@ -95,3 +75,4 @@ IsOf Receive fields k = (key : SegKey) × IsSegment fields key × (k ≡ kind.Re
 IsOf DiskIssue fields k = (sector : ℕ) × (dev : ℕ) × (count : ℕ) × IsRequest fields sector dev count × (k ≡ kind.DiskIssue sector dev count)
 IsOf DiskDone fields k = (sector : ℕ) × (dev : ℕ) × (count : ℕ) × IsRequest fields sector dev count × (k ≡ kind.DiskDone sector dev count)
 IsOf Lost fields k = (events : ℕ) × (gap : Bool) × IsLost fields events gap × (k ≡ kind.Lost events gap)
+IsOf kind fields k = ⊥

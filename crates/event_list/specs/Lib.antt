@@ -3,7 +3,7 @@ pub mod Lines
 pub mod Order
 pub mod Threads
 pub mod Names
-pub mod NameWords
+pub mod NamedKinds
 pub mod Numbering
 pub mod Spaced
 pub mod Splits

@@ -1,10 +1,11 @@
 -- The text of merged events: a first line, and one line an event (this project's own format).
-use Rattle.std.specs.Prelude.{Bool, true, if◌then◌else◌, ◌||◌, nat_eq, get_or, map, ◌≡◌, ◌≢◌, ◌⊎◌, ◌+◌, length, ℕ, ◌^◌, ◌<◌, ◌≤◌, List, [], ◌∷◌, ◌++◌, codes, flat_map, FitsSigned, ℤ}
-use Rattle.std.specs.List.{AllByRecursion, join_with_byte, starts_with}
-use Rattle.std.specs.Int.{w32, w64}
+pub use Rattle.trace_types.specs.CallNames.{is_call_in, is_call_out}
+pub use Rattle.trace_types.specs.Ranges.{AreBytes, IsKind, IsPlain, IsRequested, IsSegKey, IsSwitched, IsWoken}
+use Rattle.std.specs.Prelude.{Bool, if◌then◌else◌, get_or, map, ◌≡◌, ◌≢◌, ◌⊎◌, ◌+◌, length, ℕ, ◌^◌, ◌<◌, ◌≤◌, List, [], ◌∷◌, ◌++◌, codes, flat_map, ℤ}
+use Rattle.std.specs.List.{AllByRecursion, join_with_byte}
 use Rattle.std.specs.Fmt.{decimal, signed_decimal}
 use Rattle.trace_types.specs.ByteTexts.{byte_text}
-use Rattle.trace_types.specs.Comms.{IsName}
+use Rattle.trace_types.specs.EventKinds.{kind_of_event, word_of}
 use Rattle.trace_types.specs.declared.event.Merged.{Merged}
 use Rattle.trace_types.specs.declared.segment.SegKey.{SegKey}
 use Rattle.trace_types.specs.declared.event.KernelEvent.{KernelEvent}
@@ -14,7 +15,7 @@ use Rattle.trace_types.specs.Numbers.{IsNumber}
 use Rattle.event_list.specs.Order.{RiseFrom}
 use Rattle.event_list.specs.declared.parsed_line.ParsedLine.{ParsedLine}
 use Rattle.event_list.specs.declared.parsed_line.ParsedKind.{ParsedKind}
-use Rattle.event_list.specs.declared.place.Place.{Place}
+use Rattle.event_list.specs.declared.line_head.LineHead.{LineHead}
 
 -- the fields of a switch
 abbrev pub switch_words : ℤ → ℕ → ℕ → ℤ → ℤ → List ℕ → List ℕ → List (List ℕ)
@@ -24,6 +25,10 @@ switch_words prev_state prev_tid next_tid prev_prio next_prio prev_comm next_com
 -- the fields of a wakeup
 abbrev pub woken_words : ℕ → List ℕ → ℤ → ℕ → List (List ℕ)
 woken_words tid comm prio target_cpu = decimal tid ∷ byte_text comm ∷ signed_decimal prio ∷ decimal target_cpu ∷ []
+
+-- the fields of a thread that was there before the trace
+abbrev pub process_words : ℕ → ℕ → List ℕ → ℕ → List (List ℕ)
+process_words tid ppid name status = decimal tid ∷ decimal ppid ∷ byte_text name ∷ decimal status ∷ []
 
 -- the fields of a segment
 abbrev pub segment_words : SegKey → List (List ℕ)
@@ -37,38 +42,37 @@ request_words sector dev nr_sector = decimal dev ∷ decimal sector ∷ decimal 
 abbrev pub lost_words : ℕ → Bool → List (List ℕ)
 lost_words events gap = decimal events ∷ decimal (if gap then 1 else 0) ∷ []
 
--- the words of a kind that carries no name of an event: its own name, and its fields as its tracepoint has them
-abbrev pub plain_words : KernelEvent → List (List ℕ)
-plain_words (Switch prev_state prev_tid next_tid prev_prio next_prio prev_comm next_comm) = codes "switch" ∷ switch_words prev_state prev_tid next_tid prev_prio next_prio prev_comm next_comm
-plain_words (Wakeup tid comm prio target_cpu) = codes "wakeup" ∷ woken_words tid comm prio target_cpu
-plain_words (WakeupNew tid comm prio target_cpu) = codes "wakeup-new" ∷ woken_words tid comm prio target_cpu
-plain_words (Waking tid comm prio target_cpu) = codes "waking" ∷ woken_words tid comm prio target_cpu
-plain_words (Fork parent_tid child_tid child_comm) = codes "fork" ∷ decimal parent_tid ∷ decimal child_tid ∷ byte_text child_comm ∷ []
-plain_words (Exit tid) = codes "exit" ∷ decimal tid ∷ []
-plain_words (Free tid) = codes "free" ∷ decimal tid ∷ []
-plain_words (Migrate tid dest_cpu) = codes "migrate" ∷ decimal tid ∷ decimal dest_cpu ∷ []
-plain_words (IrqIn irq) = codes "irq-in" ∷ decimal irq ∷ []
-plain_words (IrqOut irq) = codes "irq-out" ∷ decimal irq ∷ []
-plain_words (SoftIn vec) = codes "soft-in" ∷ decimal vec ∷ []
-plain_words (SoftOut vec) = codes "soft-out" ∷ decimal vec ∷ []
-plain_words (Process tid ppid name status) = codes "process" ∷ decimal tid ∷ decimal ppid ∷ byte_text name ∷ decimal status ∷ []
-plain_words (Send key) = codes "send" ∷ segment_words key
-plain_words (Receive key) = codes "receive" ∷ segment_words key
-plain_words (DiskIssue sector dev nr_sector) = codes "disk-issue" ∷ request_words sector dev nr_sector
-plain_words (DiskDone sector dev nr_sector) = codes "disk-done" ∷ request_words sector dev nr_sector
-plain_words (Lost events gap) = codes "lost" ∷ lost_words events gap
-plain_words kind = []
-
 -- the name of a number; the empty one where there is none
 abbrev pub name_at : List (List ℕ) → ℕ → List ℕ
 name_at names n = get_or names n []
 
--- the words of a kind, with the event names of its host
+-- the fields of an event, with the event names of its host: those that its tracepoint records, or the event's name
+abbrev pub field_words : List (List ℕ) → KernelEvent → List (List ℕ)
+field_words names (Switch prev_state prev_tid next_tid prev_prio next_prio prev_comm next_comm) = switch_words prev_state prev_tid next_tid prev_prio next_prio prev_comm next_comm
+field_words names (Wakeup tid comm prio target_cpu) = woken_words tid comm prio target_cpu
+field_words names (WakeupNew tid comm prio target_cpu) = woken_words tid comm prio target_cpu
+field_words names (Waking tid comm prio target_cpu) = woken_words tid comm prio target_cpu
+field_words names (Fork parent_tid child_tid child_comm) = decimal parent_tid ∷ decimal child_tid ∷ byte_text child_comm ∷ []
+field_words names (Exit tid) = decimal tid ∷ []
+field_words names (Free tid) = decimal tid ∷ []
+field_words names (Migrate tid dest_cpu) = decimal tid ∷ decimal dest_cpu ∷ []
+field_words names (IrqIn irq) = decimal irq ∷ []
+field_words names (IrqOut irq) = decimal irq ∷ []
+field_words names (SoftIn vec) = decimal vec ∷ []
+field_words names (SoftOut vec) = decimal vec ∷ []
+field_words names (Process tid ppid name status) = process_words tid ppid name status
+field_words names (CallIn name) = byte_text (name_at names name) ∷ []
+field_words names (CallOut name) = byte_text (name_at names name) ∷ []
+field_words names (Send key) = segment_words key
+field_words names (Receive key) = segment_words key
+field_words names (DiskIssue sector dev nr_sector) = request_words sector dev nr_sector
+field_words names (DiskDone sector dev nr_sector) = request_words sector dev nr_sector
+field_words names (Lost events gap) = lost_words events gap
+field_words names (Other name) = byte_text (name_at names name) ∷ []
+
+-- the words of an event: that of its kind, and its fields
 abbrev pub kind_words : List (List ℕ) → KernelEvent → List (List ℕ)
-kind_words names (CallIn n) = codes "call-in" ∷ byte_text (name_at names n) ∷ []
-kind_words names (CallOut n) = codes "call-out" ∷ byte_text (name_at names n) ∷ []
-kind_words names (Other n) = codes "other" ∷ byte_text (name_at names n) ∷ []
-kind_words names kind = plain_words kind
+kind_words names event = word_of (kind_of_event event) ∷ field_words names event
 
 -- the words of an event's line: its key, host, processor and own time, and its kind
 abbrev pub words_of : List (List ℕ) → Merged → List (List ℕ)
@@ -80,62 +84,6 @@ line_text names m = join_with_byte 32 (words_of names m) ++ 10 ∷ []
 
 abbrev pub first_line : List ℕ
 first_line = codes "hosttrace events 1\n"
-
--- the ranges of a switch's fields
-abbrev pub IsSwitched : ℤ → ℕ → ℕ → ℤ → ℤ → List ℕ → List ℕ → Type 0
-IsSwitched prev_state prev_tid next_tid prev_prio next_prio prev_comm next_comm =
-    (prev_tid < 2 ^ 31) × IsName prev_comm × FitsSigned w32 prev_prio × FitsSigned w64 prev_state × (next_tid < 2 ^ 31) × IsName next_comm × FitsSigned w32 next_prio
-
--- the ranges of a wakeup's fields
-abbrev pub IsWoken : ℕ → List ℕ → ℤ → ℕ → Type 0
-IsWoken tid comm prio target_cpu = (tid < 2 ^ 31) × IsName comm × FitsSigned w32 prio × (target_cpu < 2 ^ 31)
-
--- the ranges of a segment's fields: addresses of 128 bits, ports and flags of 16, numbers of 32
-abbrev pub IsSegKey : SegKey → Type 0
-IsSegKey key = (key.saddr < 2 ^ 128) × (key.daddr < 2 ^ 128) × (key.source_port < 2 ^ 16) × (key.dest_port < 2 ^ 16) × (key.seq < 2 ^ 32) × (key.ack_seq < 2 ^ 32) × (key.flags < 2 ^ 16)
-
--- the ranges of a request's fields
-abbrev pub IsRequested : ℕ → ℕ → ℕ → Type 0
-IsRequested sector dev nr_sector = (sector < 2 ^ 64) × (dev < 2 ^ 32) × (nr_sector < 2 ^ 32)
-
--- the ranges of a kind's fields: numbers below 2^31, priorities of 32 bits, a state of 64 bits; the kinds that carry names have their own
-abbrev pub IsPlain : KernelEvent → Type 0
-IsPlain (Switch prev_state prev_tid next_tid prev_prio next_prio prev_comm next_comm) = IsSwitched prev_state prev_tid next_tid prev_prio next_prio prev_comm next_comm
-IsPlain (Wakeup tid comm prio target_cpu) = IsWoken tid comm prio target_cpu
-IsPlain (WakeupNew tid comm prio target_cpu) = IsWoken tid comm prio target_cpu
-IsPlain (Waking tid comm prio target_cpu) = IsWoken tid comm prio target_cpu
-IsPlain (Fork parent_tid child_tid child_comm) = (parent_tid < 2 ^ 31) × (child_tid < 2 ^ 31) × IsName child_comm
-IsPlain (Exit tid) = tid < 2 ^ 31
-IsPlain (Free tid) = tid < 2 ^ 31
-IsPlain (Migrate tid dest_cpu) = (tid < 2 ^ 31) × (dest_cpu < 2 ^ 31)
-IsPlain (IrqIn irq) = irq < 2 ^ 31
-IsPlain (IrqOut irq) = irq < 2 ^ 31
-IsPlain (SoftIn vec) = vec < 2 ^ 31
-IsPlain (SoftOut vec) = vec < 2 ^ 31
-IsPlain (Process tid ppid name status) = (tid < 2 ^ 31) × (ppid < 2 ^ 31) × IsName name × (status < 2 ^ 31)
-IsPlain (Send key) = IsSegKey key
-IsPlain (Receive key) = IsSegKey key
-IsPlain (DiskIssue sector dev nr_sector) = IsRequested sector dev nr_sector
-IsPlain (DiskDone sector dev nr_sector) = IsRequested sector dev nr_sector
-IsPlain (Lost events gap) = events < 2 ^ 64
-IsPlain kind = ⊥
-
--- what the names of system calls begin with, of 64 bits and of 32 bits
-abbrev pub is_call_in : List ℕ → Bool
-is_call_in name = starts_with nat_eq name (codes "syscall_entry_") || starts_with nat_eq name (codes "compat_syscall_entry_")
-
-abbrev pub is_call_out : List ℕ → Bool
-is_call_out name = starts_with nat_eq name (codes "syscall_exit_") || starts_with nat_eq name (codes "compat_syscall_exit_")
-
-abbrev pub AreBytes : List ℕ → Type 0
-AreBytes = AllByRecursion (λ b. b < 256)
-
--- the ranges of a kind that has its name beside it, in the place of a number; a kind that carries none has the empty one
-abbrev pub IsKind : List ℕ → KernelEvent → Type 0
-IsKind name (CallIn n) = (n ≡ 0) × (is_call_in name ≡ true) × AreBytes name
-IsKind name (CallOut n) = (n ≡ 0) × (is_call_out name ≡ true) × AreBytes name
-IsKind name (Other n) = (n ≡ 0) × AreBytes name
-IsKind name kind = (name ≡ []) × IsPlain kind
 
 -- the words of a line that was read by itself: its event has its name beside it
 abbrev pub parsed_words : ParsedLine → List (List ℕ)
@@ -157,18 +105,13 @@ pub record IsLine (words : List (List ℕ)) (t : ParsedLine) : Type 0 where
   pub spelling : words ≡ parsed_words t
   pub is_parsed_line : IsParsedLine t
 
--- the words are those of a kind without a name
-pub record IsPlainLine (words : List (List ℕ)) (k : KernelEvent) : Type 0 where
-  pub spelling : words ≡ plain_words k
-  pub is_kind : IsPlain k
-
 -- the words are those of the kind, with its name
 pub record IsKindLine (words : List (List ℕ)) (t : ParsedKind) : Type 0 where
   pub spelling : words ≡ kind_words (t.name ∷ []) t.kind
   pub is_kind : IsKind t.name t.kind
 
 -- the first four words are those of the place, which is in its ranges
-pub record IsPlace (key host cpu time : List ℕ) (p : Place) : Type 0 where
+pub record IsLineHead (key host cpu time : List ℕ) (p : LineHead) : Type 0 where
   pub key_is : IsNumber key p.key
   pub key_below : p.key < 2 ^ 62
   pub host_is : IsNumber host p.host

@@ -1,7 +1,7 @@
 //! The fields of each kind of event, as words.
 ghost use Rattle.std.specs.Prelude.{◌≡◌, IfSome, IfNone, ℕ, ℤ, List, map};
 ghost use Rattle.event_list.specs.Kinds.{IsWakeup, IsOf};
-ghost use Rattle.event_list.specs.declared.kind_word.KindWord.TheVariants.{Switch, Fork, Migrate, Process};
+ghost use Rattle.trace_types.specs.declared.event_kind.EventKind.TheVariants.{Switch, Fork, Migrate, Process};
 ghost use Rattle.trace_types.specs.declared.event.KernelEvent.{KernelEvent};
 
 use crate::thread::{read_small, read_thread};

@@ -4,7 +4,7 @@ ghost use Rattle.std.specs.Fmt.{decimal};
 ghost use Rattle.trace_types.specs.Numbers.{IsNumber};
 ghost use Rattle.trace_types.specs.declared.segment.SegKey.{SegKey};
 ghost use Rattle.event_list.specs.Kinds.{IsLost, IsOf, IsRequest, IsSegment};
-ghost use Rattle.event_list.specs.declared.kind_word.KindWord.TheVariants.{Lost};
+ghost use Rattle.trace_types.specs.declared.event_kind.EventKind.TheVariants.{Lost};
 ghost use Rattle.trace_types.specs.declared.event.KernelEvent.{KernelEvent};
 
 use trace_types::{KernelEvent, Request, SegKey, read_number, read_number_below};

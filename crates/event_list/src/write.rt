@@ -1,15 +1,15 @@
 //! Writing one line of an event list.
 ghost use Rattle.std.specs.Prelude.{◌≡◌, ◌++◌, ◌∷◌, [], OnErr, OnOk};
 ghost use Rattle.std.specs.Fmt.{decimal};
-ghost use Rattle.event_list.specs.Lines.{AreBytes, kind_words, line_text};
+ghost use Rattle.event_list.specs.Lines.{AreBytes, field_words, kind_words, line_text};
 ghost use Rattle.event_list.specs.Written.{texts_in};
 ghost use Rattle.std.specs.List.{AllByRecursion};
 ghost use Rattle.event_list.specs.Spaced.{spaced};
 
 use crate::thread::NamedThread;
 use crate::write_fields::{
-    append, write_bytes, write_lost, write_name, write_number, write_request, write_segment,
-    write_switch, write_woken,
+    write_fork, write_lost, write_name, write_number, write_process, write_request, write_segment,
+    write_switch, write_two, write_woken, write_word,
 };
 use itoa::Buffer;
 use trace_types::{Event, KernelEvent, Merged, OutOfMemory, Text};
@@ -38,14 +38,14 @@ fn write_words(event: &Merged, names: &[Text], out: &mut Vec<u8>) -> Result<(), 
 {
     let mut digits = Buffer::new();
     out.extend_from_slice(digits.format(event.key).as_bytes())?;
-    write_place(&event.event, out)?;
+    write_line_head(&event.event, out)?;
     write_kind(&event.event.kind, names, out)?;
     out.push(b'\n')?;
     Ok(())
 }
 
 // Appends an event's host, its processor and its own time, each with a space before it.
-fn write_place(event: &Event, out: &mut Vec<u8>) -> Result<(), OutOfMemory>
+fn write_line_head(event: &Event, out: &mut Vec<u8>) -> Result<(), OutOfMemory>
     ensures { OnOk result (out.new.items ≡ out.old.items ++ spaced (decimal event.now.host ∷ decimal event.now.cpu ∷ decimal event.now.time ∷ [])) }
 {
     write_number(event.host, out)?;
@@ -53,12 +53,21 @@ fn write_place(event: &Event, out: &mut Vec<u8>) -> Result<(), OutOfMemory>
     write_number(event.time, out)
 }
 
-// Appends the words of a kind, each with a space before it.
-fn write_kind(kind: &KernelEvent, names: &[Text], out: &mut Vec<u8>) -> Result<(), OutOfMemory>
-    ensures text { OnOk result (out.new.items ≡ out.old.items ++ spaced (kind_words names.now kind.now)) }
-    ensures bytes { OnOk result (AllByRecursion AreBytes (texts_in names.now kind.now)) }
+// Appends the words of an event, each with a space before it.
+fn write_kind(event: &KernelEvent, names: &[Text], out: &mut Vec<u8>) -> Result<(), OutOfMemory>
+    ensures text { OnOk result (out.new.items ≡ out.old.items ++ spaced (kind_words names.now event.now)) }
+    ensures bytes { OnOk result (AllByRecursion AreBytes (texts_in names.now event.now)) }
 {
-    match *kind {
+    write_word(event.kind().word(), out)?;
+    write_fields(event, names, out)
+}
+
+// Appends an event's fields, each with a space before it.
+fn write_fields(event: &KernelEvent, names: &[Text], out: &mut Vec<u8>) -> Result<(), OutOfMemory>
+    ensures text { OnOk result (out.new.items ≡ out.old.items ++ spaced (field_words names.now event.now)) }
+    ensures bytes { OnOk result (AllByRecursion AreBytes (texts_in names.now event.now)) }
+{
+    match *event {
         KernelEvent::Switch {
             prev_state,
             prev_tid,
@@ -78,7 +87,6 @@ fn write_kind(kind: &KernelEvent, names: &[Text], out: &mut Vec<u8>) -> Result<(
                 prio: next_prio,
                 comm: next_comm,
             };
-            append(b" switch", out)?;
             write_switch(&prev, prev_state, &next, out)
         }
         KernelEvent::Wakeup {
@@ -86,118 +94,51 @@ fn write_kind(kind: &KernelEvent, names: &[Text], out: &mut Vec<u8>) -> Result<(
             comm,
             prio,
             target_cpu,
-        } => {
-            append(b" wakeup", out)?;
-            write_woken(&NamedThread { tid, prio, comm }, target_cpu, out)
         }
-        KernelEvent::WakeupNew {
+        | KernelEvent::WakeupNew {
             tid,
             comm,
             prio,
             target_cpu,
-        } => {
-            append(b" wakeup-new", out)?;
-            write_woken(&NamedThread { tid, prio, comm }, target_cpu, out)
         }
-        KernelEvent::Waking {
+        | KernelEvent::Waking {
             tid,
             comm,
             prio,
             target_cpu,
-        } => {
-            append(b" waking", out)?;
-            write_woken(&NamedThread { tid, prio, comm }, target_cpu, out)
-        }
+        } => write_woken(&NamedThread { tid, prio, comm }, target_cpu, out),
         KernelEvent::Fork {
             parent_tid,
             child_tid,
             child_comm,
-        } => {
-            append(b" fork", out)?;
-            write_number(parent_tid, out)?;
-            write_number(child_tid, out)?;
-            write_bytes(child_comm.as_bytes(), out)
-        }
-        KernelEvent::Exit { tid } => {
-            append(b" exit", out)?;
-            write_number(tid, out)
-        }
-        KernelEvent::Free { tid } => {
-            append(b" free", out)?;
-            write_number(tid, out)
-        }
-        KernelEvent::Migrate { tid, dest_cpu } => {
-            append(b" migrate", out)?;
-            write_number(tid, out)?;
-            write_number(dest_cpu, out)
-        }
-        KernelEvent::IrqIn { irq } => {
-            append(b" irq-in", out)?;
-            write_number(irq, out)
-        }
-        KernelEvent::IrqOut { irq } => {
-            append(b" irq-out", out)?;
-            write_number(irq, out)
-        }
-        KernelEvent::SoftIn { vec } => {
-            append(b" soft-in", out)?;
-            write_number(vec, out)
-        }
-        KernelEvent::SoftOut { vec } => {
-            append(b" soft-out", out)?;
-            write_number(vec, out)
-        }
+        } => write_fork(parent_tid, child_tid, &child_comm, out),
+        KernelEvent::Migrate { tid, dest_cpu } => write_two(tid, dest_cpu, out),
         KernelEvent::Process {
             tid,
             ppid,
             name,
             status,
-        } => {
-            append(b" process", out)?;
-            write_number(tid, out)?;
-            write_number(ppid, out)?;
-            write_bytes(name.as_bytes(), out)?;
-            write_number(status, out)
-        }
-        KernelEvent::CallIn { name } => {
-            append(b" call-in", out)?;
-            write_name(names, name, out)
-        }
-        KernelEvent::CallOut { name } => {
-            append(b" call-out", out)?;
-            write_name(names, name, out)
-        }
-        KernelEvent::Send { key } => {
-            append(b" send", out)?;
-            write_segment(&key, out)
-        }
-        KernelEvent::Receive { key } => {
-            append(b" receive", out)?;
-            write_segment(&key, out)
-        }
+        } => write_process(tid, ppid, &name, status, out),
+        KernelEvent::Exit { tid: number }
+        | KernelEvent::Free { tid: number }
+        | KernelEvent::IrqIn { irq: number }
+        | KernelEvent::IrqOut { irq: number }
+        | KernelEvent::SoftIn { vec: number }
+        | KernelEvent::SoftOut { vec: number } => write_number(number, out),
+        KernelEvent::Send { key } | KernelEvent::Receive { key } => write_segment(&key, out),
         KernelEvent::DiskIssue {
             sector,
             dev,
             nr_sector,
-        } => {
-            append(b" disk-issue", out)?;
-            write_request(sector, dev, nr_sector, out)
         }
-        KernelEvent::DiskDone {
+        | KernelEvent::DiskDone {
             sector,
             dev,
             nr_sector,
-        } => {
-            append(b" disk-done", out)?;
-            write_request(sector, dev, nr_sector, out)
-        }
-        KernelEvent::Lost { events, gap } => {
-            append(b" lost", out)?;
-            write_lost(events, gap, out)
-        }
-        KernelEvent::Other { name } => {
-            append(b" other", out)?;
-            write_name(names, name, out)
-        }
+        } => write_request(sector, dev, nr_sector, out),
+        KernelEvent::Lost { events, gap } => write_lost(events, gap, out),
+        KernelEvent::CallIn { name }
+        | KernelEvent::CallOut { name }
+        | KernelEvent::Other { name } => write_name(names, name, out),
     }
 }

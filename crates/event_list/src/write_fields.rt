@@ -2,18 +2,19 @@
 ghost use Rattle.std.specs.Prelude.{◌≡◌, ◌++◌, ◌∷◌, [], OnOk};
 ghost use Rattle.std.specs.Fmt.{decimal, signed_decimal};
 ghost use Rattle.trace_types.specs.ByteTexts.{byte_text};
-ghost use Rattle.event_list.specs.Lines.{AreBytes, lost_words, name_at, request_words, segment_words, switch_words, woken_words};
+ghost use Rattle.event_list.specs.Lines.{AreBytes, lost_words, name_at, process_words, request_words, segment_words, switch_words, woken_words};
 ghost use Rattle.event_list.specs.Spaced.{spaced};
 
 use crate::thread::NamedThread;
 use itoa::{Buffer, Integer};
-use trace_types::{OutOfMemory, SegKey, Text, write_byte_text};
+use trace_types::{Comm, OutOfMemory, SegKey, Text, write_byte_text};
 
-/// Appends bytes as they are.
-pub fn append(bytes: &[u8], out: &mut Vec<u8>) -> Result<(), OutOfMemory>
-    ensures { OnOk result (out.new.items ≡ out.old.items ++ bytes.now) }
+/// Appends a space and a word as it is.
+pub fn write_word(word: &[u8], out: &mut Vec<u8>) -> Result<(), OutOfMemory>
+    ensures { OnOk result (out.new.items ≡ out.old.items ++ 32 ∷ word.now) }
 {
-    out.extend_from_slice(bytes)?;
+    out.push(b' ')?;
+    out.extend_from_slice(word)?;
     Ok(())
 }
 
@@ -72,6 +73,44 @@ pub fn write_woken(
 {
     write_thread(thread, out)?;
     write_number(target_cpu, out)
+}
+
+/// Appends the fields of a fork.
+pub fn write_fork(
+    parent_tid: u32,
+    child_tid: u32,
+    child_comm: &Comm,
+    out: &mut Vec<u8>,
+) -> Result<(), OutOfMemory>
+    ensures text { OnOk result (out.new.items ≡ out.old.items ++ spaced (decimal parent_tid ∷ decimal child_tid ∷ byte_text child_comm.now ∷ [])) }
+    ensures bytes { OnOk result (AreBytes child_comm.now) }
+{
+    write_two(parent_tid, child_tid, out)?;
+    write_bytes(child_comm.as_bytes(), out)
+}
+
+/// Appends two numbers.
+pub fn write_two(first: u32, second: u32, out: &mut Vec<u8>) -> Result<(), OutOfMemory>
+    ensures { OnOk result (out.new.items ≡ out.old.items ++ spaced (decimal first ∷ decimal second ∷ [])) }
+{
+    write_number(first, out)?;
+    write_number(second, out)
+}
+
+/// Appends the fields of a thread that was there before the trace.
+pub fn write_process(
+    tid: u32,
+    ppid: u32,
+    name: &Comm,
+    status: u32,
+    out: &mut Vec<u8>,
+) -> Result<(), OutOfMemory>
+    ensures text { OnOk result (out.new.items ≡ out.old.items ++ spaced (process_words tid ppid name.now status)) }
+    ensures bytes { OnOk result (AreBytes name.now) }
+{
+    write_two(tid, ppid, out)?;
+    write_bytes(name.as_bytes(), out)?;
+    write_number(status, out)
 }
 
 /// Appends the fields of a disk's request.

@@ -17,7 +17,7 @@ use Rattle.kernel_provider.proofs.Counts.{few_steps}
 use Rattle.kernel_provider.proofs.Keys.{held_keys, new_keys}
 use Rattle.history_core.specs.Agreement.{IsMerge}
 use Rattle.history_core.specs.Changes.{END, built_from}
-use Rattle.history_core.specs.Stands.{Kept, CanFollow, AreSteps, Stands}
+use Rattle.history_core.specs.Stands.{HistoryModel, CanFollow, AreSteps, Stands}
 use Rattle.history_core.proofs.Pushed.{built_both, steps_rest}
 
 place_held : (table : Table) (p : AttributePath) → is_held table p ≡ true → number_of table p < length (keys_of table)
@@ -89,11 +89,11 @@ pub steps_built : (merge : List Merged) → built_from 0 (steps_of merge) ≡ EN
 steps_built merge = from_built merge 0 0 []
 
 -- the next step of a merge can follow where a history stands for those before it
-pub next_follows : (merge : List Merged) → IsMerge merge → (given rest : List Step) (step : Step) → steps_of merge ≡ given ++ step ∷ rest → (h : Kept) → Stands given h → CanFollow h.paths h.built step
+pub next_follows : (merge : List Merged) → IsMerge merge → (given rest : List Step) (step : Step) → steps_of merge ≡ given ++ step ∷ rest → (h : HistoryModel) → Stands given h → CanFollow h.paths h.built step
 next_follows merge is given rest step same h stands =
     let follows = (steps_rest [] 0 given (step ∷ rest) (subst (AreSteps [] 0) same (steps_lawful merge is))).0 in
     subst (λ b. CanFollow h.paths b step) (sym stands.built) (subst (λ l. CanFollow l (built_from 0 given) step) (sym stands.paths) follows)
 
 -- before the next step of a merge there are fewer steps than can be counted
-pub next_few : (merge : List Merged) → length merge * 17 + 1 < 2 ^ 64 → (given rest : List Step) (step : Step) → steps_of merge ≡ given ++ step ∷ rest → (h : Kept) → Stands given h → h.count < 2 ^ 64 - 1
+pub next_few : (merge : List Merged) → length merge * 17 + 1 < 2 ^ 64 → (given rest : List Step) (step : Step) → steps_of merge ≡ given ++ step ∷ rest → (h : HistoryModel) → Stands given h → h.count < 2 ^ 64 - 1
 next_few merge small given rest step same h stands = omega (arith, small, few_steps merge, ap length same, length-append given (step ∷ rest), stands.count)

@@ -9,14 +9,14 @@ use Rattle.trace_types.specs.declared.value.Value.{Value}
 use Rattle.trace_types.specs.contracts.path.Path as path
 use Rattle.trace_types.specs.contracts.value.Value as value
 use Rattle.history_core.specs.declared.closed.Since.{Since}
-use Rattle.history_core.specs.Stands.{Kept}
+use Rattle.history_core.specs.Stands.{HistoryModel}
 
 -- a value since a time, as a pair
 abbrev pub since_code : Coded Since
 since_code = code_by (ℕ × Value) (coded× coded_ℕ value.the_row.coded) (λ s. (s.start, s.value)) (λ p. record { start = p.0; value = p.1 }) (λ _. refl)
 
 -- what contracts see of a history, as a tuple
-abbrev pub kept_code : Coded Kept
+abbrev pub kept_code : Coded HistoryModel
 kept_code = code_by
     (List AttributePath × (map.FinMap (slice_cmp nat_cmp) (ℕ × Value) × (List (Option Since) × (ℕ × ℕ))))
     (coded× (coded_list path.the_row.coded) (coded× (map.code (coded_list coded_ℕ) (coded× coded_ℕ value.the_row.coded)) (coded× (coded_list (coded_option since_code)) (coded× coded_ℕ coded_ℕ))))

@@ -15,14 +15,14 @@ use Rattle.history_core.specs.Closed.{IsClosed}
 use Rattle.history_core.specs.Intervals.{map_of, open_at}
 
 -- what contracts see of a history
-pub record Kept : Type 0 where
+pub record HistoryModel : Type 0 where
   pub paths : List AttributePath
   pub closed : FinMap (slice_cmp nat_cmp) (ℕ × Value)
   pub opened : List (Option Since)
   pub count : ℕ
   pub built : ℕ
 
-abbrev pub kept_of : List AttributePath → List Interval → List (Option Since) → ℕ → ℕ → Kept
+abbrev pub kept_of : List AttributePath → List Interval → List (Option Since) → ℕ → ℕ → HistoryModel
 kept_of paths closed opened count built = record { paths = paths; closed = map_of closed; opened = opened; count = count; built = built }
 
 -- a step that can come where these paths were added and the history is built to this end
@@ -42,7 +42,7 @@ AreSteps paths built [] = Unit {0}
 AreSteps paths built (step ∷ steps) = CanFollow paths built step × AreSteps (paths ++ paths_of (step ∷ [])) (built_from built (step ∷ [])) steps
 
 -- the history is what these steps make: their paths, closed intervals, last changes, number and built end
-pub record Stands (steps : List Step) (h : Kept) : Type 0 where
+pub record Stands (steps : List Step) (h : HistoryModel) : Type 0 where
   pub lawful : AreSteps [] 0 steps
   pub paths : h.paths ≡ paths_of steps
   pub closed : (n s e : ℕ) (v : Value) → (get h.closed (n ∷ s ∷ []) ≡ Some (e, v)) ↔ IsClosed (changes_of n steps) s e v

@@ -28,11 +28,11 @@ pub struct History {
 }
 
 impl Model for History {
-    ghost use Rattle.history_core.specs.Stands.{Kept, kept_of};
+    ghost use Rattle.history_core.specs.Stands.{HistoryModel, kept_of};
     ghost use Rattle.history_core.specs.Intervals.{AreKept};
     ghost use Rattle.history_core.specs.Codes.{kept_code};
 
-    ghost Value = { Kept };
+    ghost Value = { HistoryModel };
 
     ghost coded = { kept_code };
 

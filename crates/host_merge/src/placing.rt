@@ -10,7 +10,7 @@ use message_match::{Message, Messages};
 use std::alloc::Global;
 use trace_types::{Merged, OutOfMemory};
 
-/// Where the two events of each message stand in the merge of its hosts, in the order of the messages. The only error is want
+/// Where the two events of each message stand in the merge of its hosts, in the order of the messages. The only error is lack
 /// of memory.
 pub fn place(
     alloc: Global,
@@ -58,7 +58,7 @@ fn place_of(merged: &[Merged], lists: &[PlaceList], host: u32, number: u32) -> u
     lists[host as usize].at(number)
 }
 
-/// The numbers of the messages that were received, by the merge, before they were sent, ascending. The only error is want of
+/// The numbers of the messages that were received, by the merge, before they were sent, ascending. The only error is lack of
 /// memory.
 pub fn inverted(alloc: Global, placed: &[Placed]) -> Result<Vec<u32>, OutOfMemory>
     requires { length placed.now < 2 ^ 32 }

@@ -5,7 +5,7 @@ use Rattle.std.specs.Prelude.{neg_ℤ, option_map, slice_get, unwrap_or, ◌||�
 use Rattle.std.specs.List.{AllByRecursion}
 use Rattle.type_table.specs.Table.{Table}
 use Rattle.type_table.specs.Types.{Text}
-use Rattle.type_table.specs.TraceMetas.{MetaParts}
+use Rattle.type_table.specs.TraceMetas.{TraceMetaModel}
 use Rattle.ctf_fields.specs.declared.field.Field.{Field}
 use Rattle.ctf_fields.specs.declared.raw.RawEvent.{RawEvent}
 use Rattle.trace_types.specs.declared.event.KernelEvent.{KernelEvent}
@@ -13,13 +13,15 @@ use Rattle.trace_types.specs.declared.event.KernelEvent.TheVariants as kind
 use Rattle.trace_types.specs.declared.segment.SegKey.{SegKey}
 use Rattle.trace_types.specs.declared.woken.Woken.{Woken}
 use Rattle.trace_types.specs.declared.request.Request.{Request}
-use Rattle.event_list.specs.Lines.{AreBytes, IsKind, IsRequested, IsSegKey, IsWoken, is_call_in, is_call_out, name_at}
+use Rattle.trace_types.specs.CallNames.{is_call_in, is_call_out}
+use Rattle.trace_types.specs.Ranges.{AreBytes, IsKind, IsRequested, IsSegKey, IsWoken}
+use Rattle.event_list.specs.Lines.{name_at}
 use Rattle.event_list.specs.Names.{with_number}
 use Rattle.event_list.specs.Written.{name_parsed, texts_in}
 use Rattle.tsdl_parser.specs.Symbols.{is_text}
-use Rattle.kernel_layout.specs.declared.tracepoint.Tracepoint.{Tracepoint}
-use Rattle.kernel_layout.specs.declared.tracepoint.Tracepoint.TheVariants as point
-use Rattle.kernel_layout.specs.Tracepoints.{call_tracepoint, device_tracepoint, first_of, interrupt_tracepoint, layout_of, scheduler_tracepoint, tracepoint_of}
+use Rattle.trace_types.specs.declared.event_kind.EventKind.{EventKind}
+use Rattle.trace_types.specs.declared.event_kind.EventKind.TheVariants as event_kind
+use Rattle.kernel_layout.specs.Tracepoints.{call_kind, device_kind, first_of, interrupt_kind, layout_of, scheduler_kind, kind_named}
 use Rattle.kernel_layout.specs.Needed.{address, comm, number, of_16, of_32, of_64, small}
 use Rattle.kernel_layout.specs.Kinds.{disk_request, event_of, fork, kind_of, migrate, name_of, or_other, other_event_of, ports, priority, process, segment, state, switch, wakeup_fields}
 use Rattle.host_sync.proofs.Ranges.{found, from_some, is_address, is_name, is_priority, is_state, lies, lies_between, mapped}
@@ -134,55 +136,57 @@ made_fits : {A : Type 0} (names : List (List ℕ)) (make : A → KernelEvent) (o
 made_fits names make o fits k e bytes = let a = mapped make o k e in subst (λ k. IsKind (name_parsed names k) (with_number 0 k)) (sym a.2) (fits a.0 a.1)
 
 -- the name of a call is one
-abbrev IsNamed : List (List ℕ) → Tracepoint → ℕ → Type 0
-IsNamed names p name = (p ≡ point.CallIn → is_call_in (name_at names name) ≡ true) × (p ≡ point.CallOut → is_call_out (name_at names name) ≡ true)
+abbrev IsNamed : List (List ℕ) → EventKind → ℕ → Type 0
+IsNamed names p name = (p ≡ event_kind.CallIn → is_call_in (name_at names name) ≡ true) × (p ≡ event_kind.CallOut → is_call_out (name_at names name) ≡ true)
 
 other_fits : (names : List (List ℕ)) (name : ℕ) → FoundFits names (Some (kind.Other name))
 other_fits names name k e = subst (Fits names) (from_some _ k e) (λ bytes. (refl, bytes.0))
 
-other_event_fits : (names : List (List ℕ)) (p : Tracepoint) (name : ℕ) (t : Table) (f : Field) → IsNamed names p name → FoundFits names (other_event_of p name t f)
-other_event_fits names point.Exit name t f h = made_fits names kind.Exit (small t f (codes "tid")) (λ n e. (refl, small_lies t f (codes "tid") n e))
-other_event_fits names point.Free name t f h = made_fits names kind.Free (small t f (codes "tid")) (λ n e. (refl, small_lies t f (codes "tid") n e))
-other_event_fits names point.IrqIn name t f h = made_fits names kind.IrqIn (small t f (codes "irq")) (λ n e. (refl, small_lies t f (codes "irq") n e))
-other_event_fits names point.IrqOut name t f h = made_fits names kind.IrqOut (small t f (codes "irq")) (λ n e. (refl, small_lies t f (codes "irq") n e))
-other_event_fits names point.SoftIn name t f h = made_fits names kind.SoftIn (small t f (codes "vec")) (λ n e. (refl, small_lies t f (codes "vec") n e))
-other_event_fits names point.SoftOut name t f h = made_fits names kind.SoftOut (small t f (codes "vec")) (λ n e. (refl, small_lies t f (codes "vec") n e))
-other_event_fits names point.CallIn name t f h = λ k e. subst (Fits names) (from_some _ k e) (λ bytes. (refl, h.0 refl, bytes.0))
-other_event_fits names point.CallOut name t f h = λ k e. subst (Fits names) (from_some _ k e) (λ bytes. (refl, h.1 refl, bytes.0))
-other_event_fits names point.Send name t f h = made_fits names kind.Send (segment t f) (λ key e. (refl, segment_lies t f key e))
-other_event_fits names point.Receive name t f h = made_fits names kind.Receive (segment t f) (λ key e. (refl, segment_lies t f key e))
-other_event_fits names point.DiskIssue name t f h = made_fits names (λ (r : Request). kind.DiskIssue r.sector r.dev r.nr_sector) (disk_request t f) (λ r e. (refl, request_lies t f r e))
-other_event_fits names point.DiskDone name t f h = made_fits names (λ (r : Request). kind.DiskDone r.sector r.dev r.nr_sector) (disk_request t f) (λ r e. (refl, request_lies t f r e))
-other_event_fits names point.Other name t f h = other_fits names name
-other_event_fits names point.Switch name t f h = other_fits names name
-other_event_fits names point.Wakeup name t f h = other_fits names name
-other_event_fits names point.WakeupNew name t f h = other_fits names name
-other_event_fits names point.Waking name t f h = other_fits names name
-other_event_fits names point.Fork name t f h = other_fits names name
-other_event_fits names point.Migrate name t f h = other_fits names name
-other_event_fits names point.Process name t f h = other_fits names name
+other_event_fits : (names : List (List ℕ)) (p : EventKind) (name : ℕ) (t : Table) (f : Field) → IsNamed names p name → FoundFits names (other_event_of p name t f)
+other_event_fits names event_kind.Exit name t f h = made_fits names kind.Exit (small t f (codes "tid")) (λ n e. (refl, small_lies t f (codes "tid") n e))
+other_event_fits names event_kind.Free name t f h = made_fits names kind.Free (small t f (codes "tid")) (λ n e. (refl, small_lies t f (codes "tid") n e))
+other_event_fits names event_kind.IrqIn name t f h = made_fits names kind.IrqIn (small t f (codes "irq")) (λ n e. (refl, small_lies t f (codes "irq") n e))
+other_event_fits names event_kind.IrqOut name t f h = made_fits names kind.IrqOut (small t f (codes "irq")) (λ n e. (refl, small_lies t f (codes "irq") n e))
+other_event_fits names event_kind.SoftIn name t f h = made_fits names kind.SoftIn (small t f (codes "vec")) (λ n e. (refl, small_lies t f (codes "vec") n e))
+other_event_fits names event_kind.SoftOut name t f h = made_fits names kind.SoftOut (small t f (codes "vec")) (λ n e. (refl, small_lies t f (codes "vec") n e))
+other_event_fits names event_kind.CallIn name t f h = λ k e. subst (Fits names) (from_some _ k e) (λ bytes. (refl, h.0 refl, bytes.0))
+other_event_fits names event_kind.CallOut name t f h = λ k e. subst (Fits names) (from_some _ k e) (λ bytes. (refl, h.1 refl, bytes.0))
+other_event_fits names event_kind.Send name t f h = made_fits names kind.Send (segment t f) (λ key e. (refl, segment_lies t f key e))
+other_event_fits names event_kind.Receive name t f h = made_fits names kind.Receive (segment t f) (λ key e. (refl, segment_lies t f key e))
+other_event_fits names event_kind.DiskIssue name t f h = made_fits names (λ (r : Request). kind.DiskIssue r.sector r.dev r.nr_sector) (disk_request t f) (λ r e. (refl, request_lies t f r e))
+other_event_fits names event_kind.DiskDone name t f h = made_fits names (λ (r : Request). kind.DiskDone r.sector r.dev r.nr_sector) (disk_request t f) (λ r e. (refl, request_lies t f r e))
+other_event_fits names event_kind.Other name t f h = other_fits names name
+other_event_fits names event_kind.Switch name t f h = other_fits names name
+other_event_fits names event_kind.Wakeup name t f h = other_fits names name
+other_event_fits names event_kind.WakeupNew name t f h = other_fits names name
+other_event_fits names event_kind.Waking name t f h = other_fits names name
+other_event_fits names event_kind.Fork name t f h = other_fits names name
+other_event_fits names event_kind.Migrate name t f h = other_fits names name
+other_event_fits names event_kind.Process name t f h = other_fits names name
+other_event_fits names event_kind.Lost name t f h = other_fits names name
 
-event_fits : (names : List (List ℕ)) (p : Tracepoint) (name : ℕ) (t : Table) (f : Field) → IsNamed names p name → FoundFits names (event_of p name t f)
-event_fits names point.Switch name t f h = switch_fits names t f
-event_fits names point.Wakeup name t f h = woken_fits names t f (λ w. kind.Wakeup w.tid w.comm w.prio w.target_cpu) (λ w. refl) (λ w is. (refl, is))
-event_fits names point.WakeupNew name t f h = woken_fits names t f (λ w. kind.WakeupNew w.tid w.comm w.prio w.target_cpu) (λ w. refl) (λ w is. (refl, is))
-event_fits names point.Waking name t f h = woken_fits names t f (λ w. kind.Waking w.tid w.comm w.prio w.target_cpu) (λ w. refl) (λ w is. (refl, is))
-event_fits names point.Fork name t f h = fork_fits names t f
-event_fits names point.Migrate name t f h = migrate_fits names t f
-event_fits names point.Process name t f h = process_fits names t f
-event_fits names point.Exit name t f h = other_event_fits names point.Exit name t f h
-event_fits names point.Free name t f h = other_event_fits names point.Free name t f h
-event_fits names point.IrqIn name t f h = other_event_fits names point.IrqIn name t f h
-event_fits names point.IrqOut name t f h = other_event_fits names point.IrqOut name t f h
-event_fits names point.SoftIn name t f h = other_event_fits names point.SoftIn name t f h
-event_fits names point.SoftOut name t f h = other_event_fits names point.SoftOut name t f h
-event_fits names point.CallIn name t f h = other_event_fits names point.CallIn name t f h
-event_fits names point.CallOut name t f h = other_event_fits names point.CallOut name t f h
-event_fits names point.Send name t f h = other_event_fits names point.Send name t f h
-event_fits names point.Receive name t f h = other_event_fits names point.Receive name t f h
-event_fits names point.DiskIssue name t f h = other_event_fits names point.DiskIssue name t f h
-event_fits names point.DiskDone name t f h = other_event_fits names point.DiskDone name t f h
-event_fits names point.Other name t f h = other_event_fits names point.Other name t f h
+event_fits : (names : List (List ℕ)) (p : EventKind) (name : ℕ) (t : Table) (f : Field) → IsNamed names p name → FoundFits names (event_of p name t f)
+event_fits names event_kind.Switch name t f h = switch_fits names t f
+event_fits names event_kind.Wakeup name t f h = woken_fits names t f (λ w. kind.Wakeup w.tid w.comm w.prio w.target_cpu) (λ w. refl) (λ w is. (refl, is))
+event_fits names event_kind.WakeupNew name t f h = woken_fits names t f (λ w. kind.WakeupNew w.tid w.comm w.prio w.target_cpu) (λ w. refl) (λ w is. (refl, is))
+event_fits names event_kind.Waking name t f h = woken_fits names t f (λ w. kind.Waking w.tid w.comm w.prio w.target_cpu) (λ w. refl) (λ w is. (refl, is))
+event_fits names event_kind.Fork name t f h = fork_fits names t f
+event_fits names event_kind.Migrate name t f h = migrate_fits names t f
+event_fits names event_kind.Process name t f h = process_fits names t f
+event_fits names event_kind.Exit name t f h = other_event_fits names event_kind.Exit name t f h
+event_fits names event_kind.Free name t f h = other_event_fits names event_kind.Free name t f h
+event_fits names event_kind.IrqIn name t f h = other_event_fits names event_kind.IrqIn name t f h
+event_fits names event_kind.IrqOut name t f h = other_event_fits names event_kind.IrqOut name t f h
+event_fits names event_kind.SoftIn name t f h = other_event_fits names event_kind.SoftIn name t f h
+event_fits names event_kind.SoftOut name t f h = other_event_fits names event_kind.SoftOut name t f h
+event_fits names event_kind.CallIn name t f h = other_event_fits names event_kind.CallIn name t f h
+event_fits names event_kind.CallOut name t f h = other_event_fits names event_kind.CallOut name t f h
+event_fits names event_kind.Send name t f h = other_event_fits names event_kind.Send name t f h
+event_fits names event_kind.Receive name t f h = other_event_fits names event_kind.Receive name t f h
+event_fits names event_kind.DiskIssue name t f h = other_event_fits names event_kind.DiskIssue name t f h
+event_fits names event_kind.DiskDone name t f h = other_event_fits names event_kind.DiskDone name t f h
+event_fits names event_kind.Lost name t f h = other_event_fits names event_kind.Lost name t f h
+event_fits names event_kind.Other name t f h = other_event_fits names event_kind.Other name t f h
 
 or_other_fits : (names : List (List ℕ)) (name : ℕ) (o : Option KernelEvent) → FoundFits names o → Fits names (or_other name o).0
 or_other_fits names name (Some k) h = h k refl
@@ -190,17 +194,17 @@ or_other_fits names name None h = λ bytes. (refl, bytes.0)
 
 -- ---- the names of calls
 
--- no tracepoint of a system call
-abbrev NoCall : Option Tracepoint → Type 0
-NoCall (Some point.CallIn) = ⊥
-NoCall (Some point.CallOut) = ⊥
+-- no kind of a system call
+abbrev NoCall : Option EventKind → Type 0
+NoCall (Some event_kind.CallIn) = ⊥
+NoCall (Some event_kind.CallOut) = ⊥
 NoCall _ = Unit {0}
 
-of_scheduler : (name : List ℕ) → NoCall (scheduler_tracepoint name)
-unfolding scheduler_tracepoint
+of_scheduler : (name : List ℕ) → NoCall (scheduler_kind name)
+unfolding scheduler_kind
 of_scheduler name = by (is_text name (codes "sched_switch")) (is_text name (codes "sched_wakeup")) (is_text name (codes "sched_wakeup_new")) (is_text name (codes "sched_waking")) (is_text name (codes "sched_process_fork")) (is_text name (codes "sched_process_exit")) (is_text name (codes "sched_process_free")) (is_text name (codes "sched_migrate_task")) (is_text name (codes "lttng_statedump_process_state"))
   where
-    by : (a b c d e f g h i : Bool) → NoCall (if a then Some point.Switch else if b then Some point.Wakeup else if c then Some point.WakeupNew else if d then Some point.Waking else if e then Some point.Fork else if f then Some point.Exit else if g then Some point.Free else if h then Some point.Migrate else if i then Some point.Process else None)
+    by : (a b c d e f g h i : Bool) → NoCall (if a then Some event_kind.Switch else if b then Some event_kind.Wakeup else if c then Some event_kind.WakeupNew else if d then Some event_kind.Waking else if e then Some event_kind.Fork else if f then Some event_kind.Exit else if g then Some event_kind.Free else if h then Some event_kind.Migrate else if i then Some event_kind.Process else None)
     by true b c d e f g h i = tt
     by false true c d e f g h i = tt
     by false false true d e f g h i = tt
@@ -212,74 +216,74 @@ of_scheduler name = by (is_text name (codes "sched_switch")) (is_text name (code
     by false false false false false false false false true = tt
     by false false false false false false false false false = tt
 
-of_interrupt : (name : List ℕ) → NoCall (interrupt_tracepoint name)
-unfolding interrupt_tracepoint
+of_interrupt : (name : List ℕ) → NoCall (interrupt_kind name)
+unfolding interrupt_kind
 of_interrupt name = by (is_text name (codes "irq_handler_entry")) (is_text name (codes "irq_handler_exit")) (is_text name (codes "irq_softirq_entry")) (is_text name (codes "irq_softirq_exit"))
   where
-    by : (a b c d : Bool) → NoCall (if a then Some point.IrqIn else if b then Some point.IrqOut else if c then Some point.SoftIn else if d then Some point.SoftOut else None)
+    by : (a b c d : Bool) → NoCall (if a then Some event_kind.IrqIn else if b then Some event_kind.IrqOut else if c then Some event_kind.SoftIn else if d then Some event_kind.SoftOut else None)
     by true b c d = tt
     by false true c d = tt
     by false false true d = tt
     by false false false true = tt
     by false false false false = tt
 
-of_device : (name : List ℕ) → NoCall (device_tracepoint name)
-unfolding device_tracepoint
+of_device : (name : List ℕ) → NoCall (device_kind name)
+unfolding device_kind
 of_device name = by (is_text name (codes "net_dev_queue")) (is_text name (codes "netif_receive_skb") || is_text name (codes "net_if_receive_skb")) (is_text name (codes "block_rq_issue")) (is_text name (codes "block_rq_complete"))
   where
-    by : (a b c d : Bool) → NoCall (if a then Some point.Send else if b then Some point.Receive else if c then Some point.DiskIssue else if d then Some point.DiskDone else None)
+    by : (a b c d : Bool) → NoCall (if a then Some event_kind.Send else if b then Some event_kind.Receive else if c then Some event_kind.DiskIssue else if d then Some event_kind.DiskDone else None)
     by true b c d = tt
     by false true c d = tt
     by false false true d = tt
     by false false false true = tt
     by false false false false = tt
 
-no_call : (p : Tracepoint) → (p ≡ point.CallIn) ⊎ (p ≡ point.CallOut) → NoCall (Some p) → ⊥
+no_call : (p : EventKind) → (p ≡ event_kind.CallIn) ⊎ (p ≡ event_kind.CallOut) → NoCall (Some p) → ⊥
 no_call p (inl e) h = subst (λ p. NoCall (Some p)) e h
 no_call p (inr e) h = subst (λ p. NoCall (Some p)) e h
 
-behind : (o : Option Tracepoint) (next : Tracepoint) → NoCall o → (first_of o next ≡ point.CallIn) ⊎ (first_of o next ≡ point.CallOut) → first_of o next ≡ next
-behind (Some p) next h e = absurd (no_call p e h)
-behind None next h e = refl
+follows : (o : Option EventKind) (next : EventKind) → NoCall o → (first_of o next ≡ event_kind.CallIn) ⊎ (first_of o next ≡ event_kind.CallOut) → first_of o next ≡ next
+follows (Some p) next h e = absurd (no_call p e h)
+follows None next h e = refl
 
-is_call : (name : List ℕ) → (tracepoint_of name ≡ point.CallIn) ⊎ (tracepoint_of name ≡ point.CallOut) → tracepoint_of name ≡ call_tracepoint name
+is_call : (name : List ℕ) → (kind_named name ≡ event_kind.CallIn) ⊎ (kind_named name ≡ event_kind.CallOut) → kind_named name ≡ call_kind name
 is_call name e =
-    let a = behind (scheduler_tracepoint name) _ (of_scheduler name) e in
-    let e2 = subst (λ p. (p ≡ point.CallIn) ⊎ (p ≡ point.CallOut)) a e in
-    let b = behind (interrupt_tracepoint name) _ (of_interrupt name) e2 in
-    let e3 = subst (λ p. (p ≡ point.CallIn) ⊎ (p ≡ point.CallOut)) b e2 in
-    a ∙ (b ∙ behind (device_tracepoint name) _ (of_device name) e3)
+    let a = follows (scheduler_kind name) _ (of_scheduler name) e in
+    let e2 = subst (λ p. (p ≡ event_kind.CallIn) ⊎ (p ≡ event_kind.CallOut)) a e in
+    let b = follows (interrupt_kind name) _ (of_interrupt name) e2 in
+    let e3 = subst (λ p. (p ≡ event_kind.CallIn) ⊎ (p ≡ event_kind.CallOut)) b e2 in
+    a ∙ (b ∙ follows (device_kind name) _ (of_device name) e3)
 
-call_in : (name : List ℕ) → call_tracepoint name ≡ point.CallIn → is_call_in name ≡ true
+call_in : (name : List ℕ) → call_kind name ≡ event_kind.CallIn → is_call_in name ≡ true
 call_in name e = by (is_call_in name) (is_call_out name) refl e
   where
-    by : (a b : Bool) → is_call_in name ≡ a → (if a then point.CallIn else if b then point.CallOut else point.Other) ≡ point.CallIn → is_call_in name ≡ true
+    by : (a b : Bool) → is_call_in name ≡ a → (if a then event_kind.CallIn else if b then event_kind.CallOut else event_kind.Other) ≡ event_kind.CallIn → is_call_in name ≡ true
     by true b is e = is
     by false true is e = absurd (cc)
     by false false is e = absurd (cc)
 
-call_out : (name : List ℕ) → call_tracepoint name ≡ point.CallOut → is_call_out name ≡ true
+call_out : (name : List ℕ) → call_kind name ≡ event_kind.CallOut → is_call_out name ≡ true
 call_out name e = by (is_call_in name) (is_call_out name) refl e
   where
-    by : (a b : Bool) → is_call_out name ≡ b → (if a then point.CallIn else if b then point.CallOut else point.Other) ≡ point.CallOut → is_call_out name ≡ true
+    by : (a b : Bool) → is_call_out name ≡ b → (if a then event_kind.CallIn else if b then event_kind.CallOut else event_kind.Other) ≡ event_kind.CallOut → is_call_out name ≡ true
     by a true is e = is
     by true false is e = absurd (cc)
     by false false is e = absurd (cc)
 
--- a tracepoint that isn't that of any other event is its name's
-at_name : (names : List (List ℕ)) (n : ℕ) (p : Tracepoint) → p ≢ point.Other → unwrap_or (slice_get (map tracepoint_of names) n) point.Other ≡ p → tracepoint_of (name_at names n) ≡ p
+-- a kind that isn't that of any other event is its name's
+at_name : (names : List (List ℕ)) (n : ℕ) (p : EventKind) → p ≢ event_kind.Other → unwrap_or (slice_get (map kind_named names) n) event_kind.Other ≡ p → kind_named (name_at names n) ≡ p
 at_name [] n p other e = absurd (other (sym e))
 at_name (x ∷ xs) zero p other e = e
 at_name (x ∷ xs) (suc n) p other e = at_name xs n p other e
 
-are_named : (meta : MetaParts) (name : ℕ) → IsNamed meta.declared.event_names (unwrap_or (slice_get (layout_of meta) name) point.Other) name
+are_named : (meta : TraceMetaModel) (name : ℕ) → IsNamed meta.declared.event_names (unwrap_or (slice_get (layout_of meta) name) event_kind.Other) name
 are_named meta name = (
-  (λ e. let is = at_name meta.declared.event_names name point.CallIn (λ c. absurd (cc)) e in call_in (name_at meta.declared.event_names name) (sym (is_call (name_at meta.declared.event_names name) (inl is)) ∙ is)),
-  (λ e. let is = at_name meta.declared.event_names name point.CallOut (λ c. absurd (cc)) e in call_out (name_at meta.declared.event_names name) (sym (is_call (name_at meta.declared.event_names name) (inr is)) ∙ is)),
+  (λ e. let is = at_name meta.declared.event_names name event_kind.CallIn (λ c. absurd (cc)) e in call_in (name_at meta.declared.event_names name) (sym (is_call (name_at meta.declared.event_names name) (inl is)) ∙ is)),
+  (λ e. let is = at_name meta.declared.event_names name event_kind.CallOut (λ c. absurd (cc)) e in call_out (name_at meta.declared.event_names name) (sym (is_call (name_at meta.declared.event_names name) (inr is)) ∙ is)),
 )
 
 -- a decoded event's kind fits
-pub kind_fits : (meta : MetaParts) (raw : RawEvent) → Fits meta.declared.event_names (kind_of meta raw).0
+pub kind_fits : (meta : TraceMetaModel) (raw : RawEvent) → Fits meta.declared.event_names (kind_of meta raw).0
 kind_fits meta raw =
     let name = name_of meta raw.event in
-    or_other_fits meta.declared.event_names name _ (event_fits meta.declared.event_names (unwrap_or (slice_get (layout_of meta) name) point.Other) name meta.table raw.fields (are_named meta name))
+    or_other_fits meta.declared.event_names name _ (event_fits meta.declared.event_names (unwrap_or (slice_get (layout_of meta) name) event_kind.Other) name meta.table raw.fields (are_named meta name))

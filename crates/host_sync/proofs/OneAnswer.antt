@@ -27,7 +27,7 @@ one_place merged host number j k a b = by (cases_lt j k) (cases_lt k j)
     by (inr low) (inl less) = let more = count_more (is_of host) merged k j b.event b.there (eq-eqb b.event.event.host host b.of_host) less in absurd (omega (arith, more, a.before, b.before))
     by (inr low) (inr high) = omega arith
 
-one_placed : (merged : List Merged) (messages : List Message) (placed others : List Placed) → ArePlaced merged messages placed → ArePlaced merged messages others → placed ≡ others
+pub one_placed : (merged : List Merged) (messages : List Message) (placed others : List Placed) → ArePlaced merged messages placed → ArePlaced merged messages others → placed ≡ others
 one_placed merged messages placed others a b = same_lists placed others (a.count ∙ sym b.count) (λ k d h.
     let m = within messages k (omega (arith, a.count)) in
     let x = a.each k m.0 (get_or placed k d) m.1 (slice_get-get_or placed k d h) in

@@ -13,7 +13,7 @@ use std::alloc::Global;
 use trace_types::OutOfMemory;
 
 /// The forest of the pairs whose fit is a map. From the least host on, each that no tree holds yet is the root of one; a tree
-/// grows by levels, and of several hosts of one level that could be a host's parent, the least one is. The only error is want
+/// grows by levels, and of several hosts of one level that could be a host's parent, the least one is. The only error is lack
 /// of memory.
 pub fn forest(alloc: Global, hosts: u32, fits: &[Fit]) -> Result<Parents, OutOfMemory>
     requires few { hosts ≤ 64 }

@@ -8,7 +8,7 @@ use Rattle.trace_types.specs.declared.segment.SegKey.{SegKey}
 use Rattle.trace_types.specs.declared.woken.Woken.{Woken}
 use Rattle.type_table.specs.SameTrace.{AreBoth, IsSameEvent, IsSameTrace}
 use Rattle.type_table.specs.Table.{Table, IsSoundTable}
-use Rattle.type_table.specs.TraceMetas.{IsSoundMeta, MetaParts}
+use Rattle.type_table.specs.TraceMetas.{IsSoundMeta, TraceMetaModel}
 use Rattle.type_table.specs.declared.integer.Integer.{Integer}
 use Rattle.type_table.specs.declared.declared.EventId.{EventId}
 use Rattle.type_table.specs.declared.declared.EventParts.{EventParts}
@@ -21,11 +21,11 @@ use Rattle.ctf_fields.specs.Values.{below, below_if_any}
 use Rattle.ctf_fields.proofs.Alike.{Alike, ints, texts, structs, choices, lists, AlikeItems, no_items, and_item, AlikeIf, AlikeNumbers}
 use Rattle.ctf_fields.proofs.AlikeFields.{first_alike, number_alike, value_alike}
 use Rattle.ctf_fields.proofs.SameTypes.{same_integer}
-use Rattle.kernel_layout.specs.declared.tracepoint.Tracepoint.{Tracepoint}
-use Rattle.kernel_layout.specs.declared.tracepoint.Tracepoint.TheVariants as point
+use Rattle.trace_types.specs.declared.event_kind.EventKind.{EventKind}
+use Rattle.trace_types.specs.declared.event_kind.EventKind.TheVariants as event_kind
 use Rattle.kernel_layout.specs.Kinds.{disk_request, event_of, fork, kind_by, kind_of, migrate, name_of, or_other, other_event_of, ports, priority, process, segment, state, switch, wakeup_fields}
 use Rattle.kernel_layout.specs.Needed.{address, address_by, address_in, and_then, between, byte_in, byte_of, comm, comm_in, followed, is_byte, joined, list_address, lone_address, name_by, number, of_16, of_32, of_64, small}
-use Rattle.kernel_layout.specs.Tracepoints.{layout_of, tracepoint_of}
+use Rattle.kernel_layout.specs.Tracepoints.{layout_of, kind_named}
 
 -- ---- what a list of numbers spells
 
@@ -146,53 +146,53 @@ module _ (t u : Table) (st : IsSoundTable t) (su : IsSoundTable u) where
     request_same : disk_request t f ≡ disk_request u g
     request_same = rw (of_64_same (codes "sector"), of_32_same (codes "dev"), of_32_same (codes "nr_sector"))
 
-    other_same : (p : Tracepoint) (name : ℕ) → other_event_of p name t f ≡ other_event_of p name u g
-    other_same point.Exit name = ap (option_map kind.Exit) (small_same (codes "tid"))
-    other_same point.Free name = ap (option_map kind.Free) (small_same (codes "tid"))
-    other_same point.IrqIn name = ap (option_map kind.IrqIn) (small_same (codes "irq"))
-    other_same point.IrqOut name = ap (option_map kind.IrqOut) (small_same (codes "irq"))
-    other_same point.SoftIn name = ap (option_map kind.SoftIn) (small_same (codes "vec"))
-    other_same point.SoftOut name = ap (option_map kind.SoftOut) (small_same (codes "vec"))
-    other_same point.Send name = ap (option_map kind.Send) segment_same
-    other_same point.Receive name = ap (option_map kind.Receive) segment_same
-    other_same point.DiskIssue name = ap (option_map (λ r. kind.DiskIssue r.sector r.dev r.nr_sector)) request_same
-    other_same point.DiskDone name = ap (option_map (λ r. kind.DiskDone r.sector r.dev r.nr_sector)) request_same
+    other_same : (p : EventKind) (name : ℕ) → other_event_of p name t f ≡ other_event_of p name u g
+    other_same event_kind.Exit name = ap (option_map kind.Exit) (small_same (codes "tid"))
+    other_same event_kind.Free name = ap (option_map kind.Free) (small_same (codes "tid"))
+    other_same event_kind.IrqIn name = ap (option_map kind.IrqIn) (small_same (codes "irq"))
+    other_same event_kind.IrqOut name = ap (option_map kind.IrqOut) (small_same (codes "irq"))
+    other_same event_kind.SoftIn name = ap (option_map kind.SoftIn) (small_same (codes "vec"))
+    other_same event_kind.SoftOut name = ap (option_map kind.SoftOut) (small_same (codes "vec"))
+    other_same event_kind.Send name = ap (option_map kind.Send) segment_same
+    other_same event_kind.Receive name = ap (option_map kind.Receive) segment_same
+    other_same event_kind.DiskIssue name = ap (option_map (λ r. kind.DiskIssue r.sector r.dev r.nr_sector)) request_same
+    other_same event_kind.DiskDone name = ap (option_map (λ r. kind.DiskDone r.sector r.dev r.nr_sector)) request_same
     other_same _ name = refl
 
-    event_same : (p : Tracepoint) (name : ℕ) → event_of p name t f ≡ event_of p name u g
-    event_same point.Switch name = switch_same
-    event_same point.Wakeup name = ap (option_map (λ w. kind.Wakeup w.tid w.comm w.prio w.target_cpu)) wakeup_same
-    event_same point.WakeupNew name = ap (option_map (λ w. kind.WakeupNew w.tid w.comm w.prio w.target_cpu)) wakeup_same
-    event_same point.Waking name = ap (option_map (λ w. kind.Waking w.tid w.comm w.prio w.target_cpu)) wakeup_same
-    event_same point.Fork name = fork_same
-    event_same point.Migrate name = migrate_same
-    event_same point.Process name = process_same
-    event_same point.Exit name = other_same point.Exit name
-    event_same point.Free name = other_same point.Free name
-    event_same point.IrqIn name = other_same point.IrqIn name
-    event_same point.IrqOut name = other_same point.IrqOut name
-    event_same point.SoftIn name = other_same point.SoftIn name
-    event_same point.SoftOut name = other_same point.SoftOut name
-    event_same point.Send name = other_same point.Send name
-    event_same point.Receive name = other_same point.Receive name
-    event_same point.DiskIssue name = other_same point.DiskIssue name
-    event_same point.DiskDone name = other_same point.DiskDone name
+    event_same : (p : EventKind) (name : ℕ) → event_of p name t f ≡ event_of p name u g
+    event_same event_kind.Switch name = switch_same
+    event_same event_kind.Wakeup name = ap (option_map (λ w. kind.Wakeup w.tid w.comm w.prio w.target_cpu)) wakeup_same
+    event_same event_kind.WakeupNew name = ap (option_map (λ w. kind.WakeupNew w.tid w.comm w.prio w.target_cpu)) wakeup_same
+    event_same event_kind.Waking name = ap (option_map (λ w. kind.Waking w.tid w.comm w.prio w.target_cpu)) wakeup_same
+    event_same event_kind.Fork name = fork_same
+    event_same event_kind.Migrate name = migrate_same
+    event_same event_kind.Process name = process_same
+    event_same event_kind.Exit name = other_same event_kind.Exit name
+    event_same event_kind.Free name = other_same event_kind.Free name
+    event_same event_kind.IrqIn name = other_same event_kind.IrqIn name
+    event_same event_kind.IrqOut name = other_same event_kind.IrqOut name
+    event_same event_kind.SoftIn name = other_same event_kind.SoftIn name
+    event_same event_kind.SoftOut name = other_same event_kind.SoftOut name
+    event_same event_kind.Send name = other_same event_kind.Send name
+    event_same event_kind.Receive name = other_same event_kind.Receive name
+    event_same event_kind.DiskIssue name = other_same event_kind.DiskIssue name
+    event_same event_kind.DiskDone name = other_same event_kind.DiskDone name
     event_same _ name = refl
 
 -- ---- names
 
-names_alike : (t u : Table) (place : ℕ) (es fs : List (EventId × EventParts)) → AreBoth (IsSameEvent t u) es fs → Path (Option ℕ) (option_map (λ e. e.1.name) (slice_get es place)) (option_map (λ e. e.1.name) (slice_get fs place))
-names_alike t u place [] [] h = refl
-names_alike t u place [] (f ∷ fs) h = absurd h
-names_alike t u place (e ∷ es) [] h = absurd h
+names_alike : (t u : Table) (index : ℕ) (es fs : List (EventId × EventParts)) → AreBoth (IsSameEvent t u) es fs → Path (Option ℕ) (option_map (λ e. e.1.name) (slice_get es index)) (option_map (λ e. e.1.name) (slice_get fs index))
+names_alike t u index [] [] h = refl
+names_alike t u index [] (f ∷ fs) h = absurd h
+names_alike t u index (e ∷ es) [] h = absurd h
 names_alike t u zero (e ∷ es) (f ∷ fs) h = ap Some h.0.name
-names_alike t u (suc place) (e ∷ es) (f ∷ fs) h = names_alike t u place es fs h.1
+names_alike t u (suc index) (e ∷ es) (f ∷ fs) h = names_alike t u index es fs h.1
 
 -- the kernel event of two events that were read alike
-pub kind_alike : (m n : MetaParts) → IsSoundMeta m → IsSoundMeta n → IsSameTrace m n → (r s : RawEvent) → r.event ≡ s.event → Alike m.table n.table r.fields s.fields → kind_of m r ≡ kind_of n s
-kind_alike m n sm sn same r s place fields =
-    let name : name_of m r.event ≡ name_of n s.event = ap (λ o. unwrap_or o 0) (names_alike m.table n.table r.event m.declared.events n.declared.events same.events) ∙ ap (name_of n) place in
-    let layout : layout_of m ≡ layout_of n = ap (map tracepoint_of) same.event_names in
+pub kind_alike : (m n : TraceMetaModel) → IsSoundMeta m → IsSoundMeta n → IsSameTrace m n → (r s : RawEvent) → r.event ≡ s.event → Alike m.table n.table r.fields s.fields → kind_of m r ≡ kind_of n s
+kind_alike m n sm sn same r s index fields =
+    let name : name_of m r.event ≡ name_of n s.event = ap (λ o. unwrap_or o 0) (names_alike m.table n.table r.event m.declared.events n.declared.events same.events) ∙ ap (name_of n) index in
+    let layout : layout_of m ≡ layout_of n = ap (map kind_named) same.event_names in
     ap (λ a. kind_by m a r.fields) name
-    ∙ (ap (λ l. or_other (name_of n s.event) (event_of (unwrap_or (slice_get l (name_of n s.event)) point.Other) (name_of n s.event) m.table r.fields)) layout
-    ∙ ap (or_other (name_of n s.event)) (event_same m.table n.table sm.table sn.table r.fields s.fields fields (unwrap_or (slice_get (layout_of n) (name_of n s.event)) point.Other) (name_of n s.event)))
+    ∙ (ap (λ l. or_other (name_of n s.event) (event_of (unwrap_or (slice_get l (name_of n s.event)) event_kind.Other) (name_of n s.event) m.table r.fields)) layout
+    ∙ ap (or_other (name_of n s.event)) (event_same m.table n.table sm.table sn.table r.fields s.fields fields (unwrap_or (slice_get (layout_of n) (name_of n s.event)) event_kind.Other) (name_of n s.event)))

@@ -1,7 +1,7 @@
 -- What a kernel event is, by its name and its fields. One that lacks a field in its form and range is another event, and incomplete (this project's own).
 use Rattle.std.specs.Prelude.{ℕ, ℤ, pos, neg_ℤ, Bool, true, false, List, codes, Option, Some, None, slice_get, unwrap_or, option_map}
 use Rattle.type_table.specs.Table.{Table}
-use Rattle.type_table.specs.TraceMetas.{MetaParts}
+use Rattle.type_table.specs.TraceMetas.{TraceMetaModel}
 use Rattle.trace_types.specs.declared.event.KernelEvent.{KernelEvent}
 use Rattle.trace_types.specs.declared.event.KernelEvent.TheVariants as kind
 use Rattle.trace_types.specs.declared.segment.SegKey.{SegKey}
@@ -9,8 +9,8 @@ use Rattle.ctf_fields.specs.declared.field.Field.{Field}
 use Rattle.ctf_fields.specs.declared.raw.RawEvent.{RawEvent}
 use Rattle.trace_types.specs.declared.woken.Woken.{Woken}
 use Rattle.trace_types.specs.declared.request.Request.{Request}
-use Rattle.kernel_layout.specs.declared.tracepoint.Tracepoint.{Tracepoint}
-use Rattle.kernel_layout.specs.declared.tracepoint.Tracepoint.TheVariants as point
+use Rattle.trace_types.specs.declared.event_kind.EventKind.{EventKind}
+use Rattle.trace_types.specs.declared.event_kind.EventKind.TheVariants as event_kind
 use Rattle.kernel_layout.specs.Tracepoints.{layout_of}
 use Rattle.kernel_layout.specs.Needed.{and_then, address, between, comm, number, of_16, of_32, of_64, small}
 
@@ -81,31 +81,31 @@ disk_request t f =
     and_then (of_32 t f (codes "nr_sector")) (λ count.
     Some (record { sector = sector; dev = dev; nr_sector = count }))))
 
--- the event of a tracepoint that has one number or a call, a segment or a request; the name is kept of calls and of others
-abbrev pub other_event_of : Tracepoint → ℕ → Table → Field → Option KernelEvent
-other_event_of point.Exit name t f = option_map kind.Exit (small t f (codes "tid"))
-other_event_of point.Free name t f = option_map kind.Free (small t f (codes "tid"))
-other_event_of point.IrqIn name t f = option_map kind.IrqIn (small t f (codes "irq"))
-other_event_of point.IrqOut name t f = option_map kind.IrqOut (small t f (codes "irq"))
-other_event_of point.SoftIn name t f = option_map kind.SoftIn (small t f (codes "vec"))
-other_event_of point.SoftOut name t f = option_map kind.SoftOut (small t f (codes "vec"))
-other_event_of point.CallIn name t f = Some (kind.CallIn name)
-other_event_of point.CallOut name t f = Some (kind.CallOut name)
-other_event_of point.Send name t f = option_map kind.Send (segment t f)
-other_event_of point.Receive name t f = option_map kind.Receive (segment t f)
-other_event_of point.DiskIssue name t f = option_map (λ r. kind.DiskIssue r.sector r.dev r.nr_sector) (disk_request t f)
-other_event_of point.DiskDone name t f = option_map (λ r. kind.DiskDone r.sector r.dev r.nr_sector) (disk_request t f)
+-- the event of a kind that has one number or a call, a segment or a request; the name is kept of calls and of others
+abbrev pub other_event_of : EventKind → ℕ → Table → Field → Option KernelEvent
+other_event_of event_kind.Exit name t f = option_map kind.Exit (small t f (codes "tid"))
+other_event_of event_kind.Free name t f = option_map kind.Free (small t f (codes "tid"))
+other_event_of event_kind.IrqIn name t f = option_map kind.IrqIn (small t f (codes "irq"))
+other_event_of event_kind.IrqOut name t f = option_map kind.IrqOut (small t f (codes "irq"))
+other_event_of event_kind.SoftIn name t f = option_map kind.SoftIn (small t f (codes "vec"))
+other_event_of event_kind.SoftOut name t f = option_map kind.SoftOut (small t f (codes "vec"))
+other_event_of event_kind.CallIn name t f = Some (kind.CallIn name)
+other_event_of event_kind.CallOut name t f = Some (kind.CallOut name)
+other_event_of event_kind.Send name t f = option_map kind.Send (segment t f)
+other_event_of event_kind.Receive name t f = option_map kind.Receive (segment t f)
+other_event_of event_kind.DiskIssue name t f = option_map (λ r. kind.DiskIssue r.sector r.dev r.nr_sector) (disk_request t f)
+other_event_of event_kind.DiskDone name t f = option_map (λ r. kind.DiskDone r.sector r.dev r.nr_sector) (disk_request t f)
 other_event_of _ name t f = Some (kind.Other name)
 
--- the event of a tracepoint, where its fields are there
-abbrev pub event_of : Tracepoint → ℕ → Table → Field → Option KernelEvent
-event_of point.Switch name t f = switch t f
-event_of point.Wakeup name t f = option_map (λ w. kind.Wakeup w.tid w.comm w.prio w.target_cpu) (wakeup_fields t f)
-event_of point.WakeupNew name t f = option_map (λ w. kind.WakeupNew w.tid w.comm w.prio w.target_cpu) (wakeup_fields t f)
-event_of point.Waking name t f = option_map (λ w. kind.Waking w.tid w.comm w.prio w.target_cpu) (wakeup_fields t f)
-event_of point.Fork name t f = fork t f
-event_of point.Migrate name t f = migrate t f
-event_of point.Process name t f = process t f
+-- the event of a kind, where its fields are there
+abbrev pub event_of : EventKind → ℕ → Table → Field → Option KernelEvent
+event_of event_kind.Switch name t f = switch t f
+event_of event_kind.Wakeup name t f = option_map (λ w. kind.Wakeup w.tid w.comm w.prio w.target_cpu) (wakeup_fields t f)
+event_of event_kind.WakeupNew name t f = option_map (λ w. kind.WakeupNew w.tid w.comm w.prio w.target_cpu) (wakeup_fields t f)
+event_of event_kind.Waking name t f = option_map (λ w. kind.Waking w.tid w.comm w.prio w.target_cpu) (wakeup_fields t f)
+event_of event_kind.Fork name t f = fork t f
+event_of event_kind.Migrate name t f = migrate t f
+event_of event_kind.Process name t f = process t f
 event_of rest name t f = other_event_of rest name t f
 
 -- whether it is incomplete stands beside it
@@ -114,11 +114,11 @@ or_other name (Some k) = (k, false)
 or_other name None = (kind.Other name, true)
 
 -- the number of an event's name
-abbrev pub name_of : MetaParts → ℕ → ℕ
-name_of meta place = unwrap_or (option_map (λ e. e.1.name) (slice_get meta.declared.events place)) 0
+abbrev pub name_of : TraceMetaModel → ℕ → ℕ
+name_of meta index = unwrap_or (option_map (λ e. e.1.name) (slice_get meta.declared.events index)) 0
 
-abbrev pub kind_by : MetaParts → ℕ → Field → KernelEvent × Bool
-kind_by meta name f = or_other name (event_of (unwrap_or (slice_get (layout_of meta) name) point.Other) name meta.table f)
+abbrev pub kind_by : TraceMetaModel → ℕ → Field → KernelEvent × Bool
+kind_by meta name f = or_other name (event_of (unwrap_or (slice_get (layout_of meta) name) event_kind.Other) name meta.table f)
 
-abbrev pub kind_of : MetaParts → RawEvent → KernelEvent × Bool
+abbrev pub kind_of : TraceMetaModel → RawEvent → KernelEvent × Bool
 kind_of meta raw = kind_by meta (name_of meta raw.event) raw.fields

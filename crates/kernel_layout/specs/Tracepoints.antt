@@ -1,60 +1,57 @@
--- Tracepoints by the names of their events (the names are those of LTTng's kernel tracer; that these are told apart is this project's own).
-use Rattle.std.specs.Prelude.{Bool, ◌||◌, nat_eq, List, codes, map, Option, Some, None, if◌then◌else◌}
-use Rattle.std.specs.List.{starts_with}
+-- The kinds of events by the names of their tracepoints (the names are those of LTTng's kernel tracer; that these are told apart is this project's own).
+use Rattle.std.specs.Prelude.{◌||◌, List, codes, map, Option, Some, None, if◌then◌else◌}
+use Rattle.trace_types.specs.CallNames.{is_call_in, is_call_out}
 use Rattle.tsdl_parser.specs.Symbols.{is_text}
 use Rattle.type_table.specs.Types.{Text}
-use Rattle.type_table.specs.TraceMetas.{MetaParts}
-use Rattle.kernel_layout.specs.declared.tracepoint.Tracepoint.{Tracepoint}
-use Rattle.kernel_layout.specs.declared.tracepoint.Tracepoint.TheVariants as point
+use Rattle.type_table.specs.TraceMetas.{TraceMetaModel}
+use Rattle.trace_types.specs.declared.event_kind.EventKind.{EventKind}
+use Rattle.trace_types.specs.declared.event_kind.EventKind.TheVariants as event_kind
 
 -- what the scheduler does, and the threads that the tracer found when it began
-unfoldable pub scheduler_tracepoint : Text → Option Tracepoint
-scheduler_tracepoint name =
-    if is_text name (codes "sched_switch") then Some point.Switch
-    else if is_text name (codes "sched_wakeup") then Some point.Wakeup
-    else if is_text name (codes "sched_wakeup_new") then Some point.WakeupNew
-    else if is_text name (codes "sched_waking") then Some point.Waking
-    else if is_text name (codes "sched_process_fork") then Some point.Fork
-    else if is_text name (codes "sched_process_exit") then Some point.Exit
-    else if is_text name (codes "sched_process_free") then Some point.Free
-    else if is_text name (codes "sched_migrate_task") then Some point.Migrate
-    else if is_text name (codes "lttng_statedump_process_state") then Some point.Process
+unfoldable pub scheduler_kind : Text → Option EventKind
+scheduler_kind name =
+    if is_text name (codes "sched_switch") then Some event_kind.Switch
+    else if is_text name (codes "sched_wakeup") then Some event_kind.Wakeup
+    else if is_text name (codes "sched_wakeup_new") then Some event_kind.WakeupNew
+    else if is_text name (codes "sched_waking") then Some event_kind.Waking
+    else if is_text name (codes "sched_process_fork") then Some event_kind.Fork
+    else if is_text name (codes "sched_process_exit") then Some event_kind.Exit
+    else if is_text name (codes "sched_process_free") then Some event_kind.Free
+    else if is_text name (codes "sched_migrate_task") then Some event_kind.Migrate
+    else if is_text name (codes "lttng_statedump_process_state") then Some event_kind.Process
     else None
 
-unfoldable pub interrupt_tracepoint : Text → Option Tracepoint
-interrupt_tracepoint name =
-    if is_text name (codes "irq_handler_entry") then Some point.IrqIn
-    else if is_text name (codes "irq_handler_exit") then Some point.IrqOut
-    else if is_text name (codes "irq_softirq_entry") then Some point.SoftIn
-    else if is_text name (codes "irq_softirq_exit") then Some point.SoftOut
+unfoldable pub interrupt_kind : Text → Option EventKind
+interrupt_kind name =
+    if is_text name (codes "irq_handler_entry") then Some event_kind.IrqIn
+    else if is_text name (codes "irq_handler_exit") then Some event_kind.IrqOut
+    else if is_text name (codes "irq_softirq_entry") then Some event_kind.SoftIn
+    else if is_text name (codes "irq_softirq_exit") then Some event_kind.SoftOut
     else None
 
 -- segments on the network and requests of disks
-unfoldable pub device_tracepoint : Text → Option Tracepoint
-device_tracepoint name =
-    if is_text name (codes "net_dev_queue") then Some point.Send
-    else if is_text name (codes "netif_receive_skb") || is_text name (codes "net_if_receive_skb") then Some point.Receive
-    else if is_text name (codes "block_rq_issue") then Some point.DiskIssue
-    else if is_text name (codes "block_rq_complete") then Some point.DiskDone
+unfoldable pub device_kind : Text → Option EventKind
+device_kind name =
+    if is_text name (codes "net_dev_queue") then Some event_kind.Send
+    else if is_text name (codes "netif_receive_skb") || is_text name (codes "net_if_receive_skb") then Some event_kind.Receive
+    else if is_text name (codes "block_rq_issue") then Some event_kind.DiskIssue
+    else if is_text name (codes "block_rq_complete") then Some event_kind.DiskDone
     else None
 
--- system calls of 64 bits and of 32 bits, by what their names begin with
-abbrev pub begins : Text → Text → Bool
-begins name front = starts_with nat_eq name front
+-- system calls, and any other event (LTTng's kernel tracer)
+abbrev pub call_kind : Text → EventKind
+call_kind name =
+    if is_call_in name then event_kind.CallIn
+    else if is_call_out name then event_kind.CallOut
+    else event_kind.Other
 
-abbrev pub call_tracepoint : Text → Tracepoint
-call_tracepoint name =
-    if begins name (codes "syscall_entry_") || begins name (codes "compat_syscall_entry_") then point.CallIn
-    else if begins name (codes "syscall_exit_") || begins name (codes "compat_syscall_exit_") then point.CallOut
-    else point.Other
-
-abbrev pub first_of : Option Tracepoint → Tracepoint → Tracepoint
+abbrev pub first_of : Option EventKind → EventKind → EventKind
 first_of (Some found) next = found
 first_of None next = next
 
-abbrev pub tracepoint_of : Text → Tracepoint
-tracepoint_of name = first_of (scheduler_tracepoint name) (first_of (interrupt_tracepoint name) (first_of (device_tracepoint name) (call_tracepoint name)))
+abbrev pub kind_named : Text → EventKind
+kind_named name = first_of (scheduler_kind name) (first_of (interrupt_kind name) (first_of (device_kind name) (call_kind name)))
 
--- the tracepoints of all event names of a trace
-abbrev pub layout_of : MetaParts → List Tracepoint
-layout_of meta = map tracepoint_of meta.declared.event_names
+-- the kinds of all event names of a trace
+abbrev pub layout_of : TraceMetaModel → List EventKind
+layout_of meta = map kind_named meta.declared.event_names

@@ -6,9 +6,8 @@ ghost use Rattle.kernel_layout.specs.Tracepoints.{layout_of};
 use crate::layout::Layout;
 use crate::needed::{Fields, comm, of_32, of_64, priority, small, state};
 use crate::segments::segment;
-use crate::tracepoint::Tracepoint;
 use ctf_fields::RawEvent;
-use trace_types::{KernelEvent, Request, Woken};
+use trace_types::{EventKind, KernelEvent, Request, Woken};
 use type_table::TraceMeta;
 
 /// What an event is, and whether a field is missing that its name calls for; it is then another event. A field of
@@ -29,64 +28,64 @@ pub fn kind_of(meta: &TraceMeta, layout: &Layout, raw: &RawEvent) -> (KernelEven
 }
 
 // The number of an event's name.
-fn name_of(meta: &TraceMeta, place: u32) -> u32
-    ensures { result ≡ name_of meta.now place }
+fn name_of(meta: &TraceMeta, index: u32) -> u32
+    ensures { result ≡ name_of meta.now index }
 {
-    match meta.event(place) {
+    match meta.event(index) {
         Some((_, parts)) => parts.name,
         None => 0,
     }
 }
 
-// The event of a tracepoint, where all fields are there that it needs.
-fn event_of(tracepoint: Tracepoint, name: u32, fields: Fields<'_>) -> Option<KernelEvent>
-    ensures { result ≡ event_of tracepoint name fields.entry.table.now fields.entry.root.now }
+// The event of a kind, where all fields are there that it needs.
+fn event_of(kind: EventKind, name: u32, fields: Fields<'_>) -> Option<KernelEvent>
+    ensures { result ≡ event_of kind name fields.entry.table.now fields.entry.root.now }
 {
-    match tracepoint {
-        Tracepoint::Switch => switch(fields),
-        Tracepoint::Wakeup => Some(wakeup_fields(fields)?.wakeup()),
-        Tracepoint::WakeupNew => Some(wakeup_fields(fields)?.wakeup_new()),
-        Tracepoint::Waking => Some(wakeup_fields(fields)?.waking()),
-        Tracepoint::Fork => fork(fields),
-        Tracepoint::Migrate => migrate(fields),
-        Tracepoint::Process => process(fields),
+    match kind {
+        EventKind::Switch => switch(fields),
+        EventKind::Wakeup => Some(wakeup_fields(fields)?.wakeup()),
+        EventKind::WakeupNew => Some(wakeup_fields(fields)?.wakeup_new()),
+        EventKind::Waking => Some(wakeup_fields(fields)?.waking()),
+        EventKind::Fork => fork(fields),
+        EventKind::Migrate => migrate(fields),
+        EventKind::Process => process(fields),
         other => other_event_of(other, name, fields),
     }
 }
 
-// The event of a tracepoint that has one number, or a call, a segment or a request.
-fn other_event_of(tracepoint: Tracepoint, name: u32, fields: Fields<'_>) -> Option<KernelEvent>
-    ensures { result ≡ other_event_of tracepoint name fields.entry.table.now fields.entry.root.now }
+// The event of a kind that has one number, or a call, a segment or a request.
+fn other_event_of(kind: EventKind, name: u32, fields: Fields<'_>) -> Option<KernelEvent>
+    ensures { result ≡ other_event_of kind name fields.entry.table.now fields.entry.root.now }
 {
-    Some(match tracepoint {
-        Tracepoint::Exit => KernelEvent::Exit {
+    Some(match kind {
+        EventKind::Exit => KernelEvent::Exit {
             tid: small(fields, b"tid")?,
         },
-        Tracepoint::Free => KernelEvent::Free {
+        EventKind::Free => KernelEvent::Free {
             tid: small(fields, b"tid")?,
         },
-        Tracepoint::IrqIn => KernelEvent::IrqIn {
+        EventKind::IrqIn => KernelEvent::IrqIn {
             irq: small(fields, b"irq")?,
         },
-        Tracepoint::IrqOut => KernelEvent::IrqOut {
+        EventKind::IrqOut => KernelEvent::IrqOut {
             irq: small(fields, b"irq")?,
         },
-        Tracepoint::SoftIn => KernelEvent::SoftIn {
+        EventKind::SoftIn => KernelEvent::SoftIn {
             vec: small(fields, b"vec")?,
         },
-        Tracepoint::SoftOut => KernelEvent::SoftOut {
+        EventKind::SoftOut => KernelEvent::SoftOut {
             vec: small(fields, b"vec")?,
         },
-        Tracepoint::CallIn => KernelEvent::CallIn { name },
-        Tracepoint::CallOut => KernelEvent::CallOut { name },
-        Tracepoint::Send => KernelEvent::Send {
+        EventKind::CallIn => KernelEvent::CallIn { name },
+        EventKind::CallOut => KernelEvent::CallOut { name },
+        EventKind::Send => KernelEvent::Send {
             key: segment(fields)?,
         },
-        Tracepoint::Receive => KernelEvent::Receive {
+        EventKind::Receive => KernelEvent::Receive {
             key: segment(fields)?,
         },
-        Tracepoint::DiskIssue => disk_request(fields)?.issue(),
-        Tracepoint::DiskDone => disk_request(fields)?.done(),
+        EventKind::DiskIssue => disk_request(fields)?.issue(),
+        EventKind::DiskDone => disk_request(fields)?.done(),
         _ => KernelEvent::Other { name },
     })
 }

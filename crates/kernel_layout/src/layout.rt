@@ -1,51 +1,51 @@
-//! The tracepoints of a trace's event names.
+//! The kinds of a trace's event names.
 ghost use Rattle.std.specs.Prelude.{◌≡◌, IfOk, slice_get, unwrap_or};
 ghost use Rattle.kernel_layout.specs.Tracepoints.{layout_of};
-ghost use Rattle.kernel_layout.specs.declared.tracepoint.Tracepoint.TheVariants as point;
+ghost use Rattle.trace_types.specs.declared.event_kind.EventKind.TheVariants as event_kind;
 
-use crate::tracepoint::{Tracepoint, tracepoint_of};
+use crate::tracepoint::kind_named;
 use std::alloc::Global;
 use std::marker::Model;
-use trace_types::OutOfMemory;
+use trace_types::{EventKind, OutOfMemory};
 use type_table::TraceMeta;
 
-/// The tracepoint of each event name of a trace, decided once. Contracts see the list of them.
+/// The kind of each event name of a trace, decided once. Contracts see the list of them.
 #[derive(Debug, Drop)]
 pub struct Layout {
-    tracepoints: Vec<Tracepoint>,
+    kinds: Vec<EventKind>,
 }
 
 impl Model for Layout {
     ghost use Rattle.std.specs.Prelude.{List};
-    ghost use Rattle.kernel_layout.specs.declared.tracepoint.Tracepoint.{Tracepoint};
+    ghost use Rattle.trace_types.specs.declared.event_kind.EventKind.{EventKind};
 
-    ghost Value = { List Tracepoint };
+    ghost Value = { List EventKind };
 
-    ghost view = { λ l. l.tracepoints.items };
+    ghost view = { λ l. l.kinds.items };
 }
 
 impl Layout {
-    /// The tracepoints of a trace. The only error is lack of memory.
+    /// The kinds of a trace's event names. The only error is lack of memory.
     pub fn new(alloc: Global, meta: &TraceMeta) -> Result<Layout, OutOfMemory>
         ensures { IfOk result (λ layout. layout ≡ layout_of meta.now) }
     {
         meta.is_sound();
-        let mut tracepoints = Vec::new(alloc);
+        let mut kinds = Vec::new(alloc);
         let mut number = 0u32;
         while let Some(name) = meta.event_name(number) {
-            tracepoints.push(tracepoint_of(name))?;
+            kinds.push(kind_named(name))?;
             number += 1;
         }
-        Ok(Layout { tracepoints })
+        Ok(Layout { kinds })
     }
 
-    /// The tracepoint of the name of this number.
-    pub fn of(&self, name: u32) -> Tracepoint
-        ensures { result ≡ unwrap_or (slice_get self.now name) point.Other }
+    /// The kind of the name of this number.
+    pub fn of(&self, name: u32) -> EventKind
+        ensures { result ≡ unwrap_or (slice_get self.now name) event_kind.Other }
     {
-        match self.tracepoints.get(name as usize) {
+        match self.kinds.get(name as usize) {
             Some(found) => *found,
-            None => Tracepoint::Other,
+            None => EventKind::Other,
         }
     }
 }

@@ -9,4 +9,3 @@ mod tracepoint;
 
 pub use kinds::kind_of;
 pub use layout::Layout;
-pub use tracepoint::Tracepoint;

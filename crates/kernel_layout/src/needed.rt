@@ -84,7 +84,7 @@ fn comm_in(table: &Table, field: Option<&Field>) -> Option<Comm>
     }
 }
 
-// Whether the type at a place is an integer of 8 bits.
+// Whether the type at an index is an integer of 8 bits.
 fn is_byte(table: &Table, ty: u32) -> bool
     ensures { result ≡ is_byte (integer_type table.now ty) }
 {
@@ -100,8 +100,8 @@ fn listed_name(fields: &[Field]) -> Comm
 {
     let mut bytes = [0; 15];
     let len = fields.len().min(15);
-    for place in 0..len {
-        bytes[place] = byte_of(&fields[place]);
+    for index in 0..len {
+        bytes[index] = byte_of(&fields[index]);
     }
     Comm::first_of(&bytes[..len])
 }

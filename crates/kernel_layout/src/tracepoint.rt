@@ -1,105 +1,82 @@
-//! Tracepoints by the names of their events.
+//! The kinds of events by the names of their tracepoints.
 ghost use Rattle.std.specs.Prelude.{◌≡◌};
 ghost use Rattle.tsdl_parser.specs.Symbols.{is_text};
-ghost use Rattle.kernel_layout.specs.Tracepoints.{call_tracepoint, device_tracepoint, interrupt_tracepoint, scheduler_tracepoint, tracepoint_of};
+ghost use Rattle.kernel_layout.specs.Tracepoints.{call_kind, device_kind, interrupt_kind, kind_named, scheduler_kind};
 
-/// What an event's name tells of it.
-#[derive(Clone, Copy, Debug, PartialEq, Eq)]
-pub enum Tracepoint {
-    Switch,
-    Wakeup,
-    WakeupNew,
-    Waking,
-    Fork,
-    Exit,
-    Free,
-    Migrate,
-    IrqIn,
-    IrqOut,
-    SoftIn,
-    SoftOut,
-    CallIn,
-    CallOut,
-    Process,
-    Send,
-    Receive,
-    DiskIssue,
-    DiskDone,
-    Other,
-}
+use trace_types::{EventKind, is_call_in, is_call_out};
 
-/// The tracepoint of an event's name.
-pub fn tracepoint_of(name: &[u8]) -> Tracepoint
-    ensures { result ≡ tracepoint_of name.now }
+/// The kind of the events of this name.
+pub fn kind_named(name: &[u8]) -> EventKind
+    ensures { result ≡ kind_named name.now }
 {
-    if let Some(found) = scheduler_tracepoint(name) {
+    if let Some(found) = scheduler_kind(name) {
         return found;
     }
-    if let Some(found) = interrupt_tracepoint(name) {
+    if let Some(found) = interrupt_kind(name) {
         return found;
     }
-    match device_tracepoint(name) {
+    match device_kind(name) {
         Some(found) => found,
-        None => call_tracepoint(name),
+        None => call_kind(name),
     }
 }
 
-#[tactic(auto, unfolding(crate::specs::Tracepoints::scheduler_tracepoint))]
-fn scheduler_tracepoint(name: &[u8]) -> Option<Tracepoint>
-    ensures { result ≡ scheduler_tracepoint name.now }
+#[tactic(auto, unfolding(crate::specs::Tracepoints::scheduler_kind))]
+fn scheduler_kind(name: &[u8]) -> Option<EventKind>
+    ensures { result ≡ scheduler_kind name.now }
 {
     if is_text(name, b"sched_switch") {
-        Some(Tracepoint::Switch)
+        Some(EventKind::Switch)
     } else if is_text(name, b"sched_wakeup") {
-        Some(Tracepoint::Wakeup)
+        Some(EventKind::Wakeup)
     } else if is_text(name, b"sched_wakeup_new") {
-        Some(Tracepoint::WakeupNew)
+        Some(EventKind::WakeupNew)
     } else if is_text(name, b"sched_waking") {
-        Some(Tracepoint::Waking)
+        Some(EventKind::Waking)
     } else if is_text(name, b"sched_process_fork") {
-        Some(Tracepoint::Fork)
+        Some(EventKind::Fork)
     } else if is_text(name, b"sched_process_exit") {
-        Some(Tracepoint::Exit)
+        Some(EventKind::Exit)
     } else if is_text(name, b"sched_process_free") {
-        Some(Tracepoint::Free)
+        Some(EventKind::Free)
     } else if is_text(name, b"sched_migrate_task") {
-        Some(Tracepoint::Migrate)
+        Some(EventKind::Migrate)
     } else if is_text(name, b"lttng_statedump_process_state") {
-        Some(Tracepoint::Process)
+        Some(EventKind::Process)
     } else {
         None
     }
 }
 
-#[tactic(auto, unfolding(crate::specs::Tracepoints::interrupt_tracepoint))]
-fn interrupt_tracepoint(name: &[u8]) -> Option<Tracepoint>
-    ensures { result ≡ interrupt_tracepoint name.now }
+#[tactic(auto, unfolding(crate::specs::Tracepoints::interrupt_kind))]
+fn interrupt_kind(name: &[u8]) -> Option<EventKind>
+    ensures { result ≡ interrupt_kind name.now }
 {
     if is_text(name, b"irq_handler_entry") {
-        Some(Tracepoint::IrqIn)
+        Some(EventKind::IrqIn)
     } else if is_text(name, b"irq_handler_exit") {
-        Some(Tracepoint::IrqOut)
+        Some(EventKind::IrqOut)
     } else if is_text(name, b"irq_softirq_entry") {
-        Some(Tracepoint::SoftIn)
+        Some(EventKind::SoftIn)
     } else if is_text(name, b"irq_softirq_exit") {
-        Some(Tracepoint::SoftOut)
+        Some(EventKind::SoftOut)
     } else {
         None
     }
 }
 
-#[tactic(auto, unfolding(crate::specs::Tracepoints::device_tracepoint))]
-fn device_tracepoint(name: &[u8]) -> Option<Tracepoint>
-    ensures { result ≡ device_tracepoint name.now }
+#[tactic(auto, unfolding(crate::specs::Tracepoints::device_kind))]
+fn device_kind(name: &[u8]) -> Option<EventKind>
+    ensures { result ≡ device_kind name.now }
 {
     if is_text(name, b"net_dev_queue") {
-        Some(Tracepoint::Send)
+        Some(EventKind::Send)
     } else if is_text(name, b"netif_receive_skb") || is_text(name, b"net_if_receive_skb") {
-        Some(Tracepoint::Receive)
+        Some(EventKind::Receive)
     } else if is_text(name, b"block_rq_issue") {
-        Some(Tracepoint::DiskIssue)
+        Some(EventKind::DiskIssue)
     } else if is_text(name, b"block_rq_complete") {
-        Some(Tracepoint::DiskDone)
+        Some(EventKind::DiskDone)
     } else {
         None
     }
@@ -112,14 +89,14 @@ fn is_text(name: &[u8], text: &[u8]) -> bool
     name == text
 }
 
-fn call_tracepoint(name: &[u8]) -> Tracepoint
-    ensures { result ≡ call_tracepoint name.now }
+fn call_kind(name: &[u8]) -> EventKind
+    ensures { result ≡ call_kind name.now }
 {
-    if name.starts_with(b"syscall_entry_") || name.starts_with(b"compat_syscall_entry_") {
-        Tracepoint::CallIn
-    } else if name.starts_with(b"syscall_exit_") || name.starts_with(b"compat_syscall_exit_") {
-        Tracepoint::CallOut
+    if is_call_in(name) {
+        EventKind::CallIn
+    } else if is_call_out(name) {
+        EventKind::CallOut
     } else {
-        Tracepoint::Other
+        EventKind::Other
     }
 }

@@ -4,7 +4,7 @@ use Rattle.std.specs.Map.{keys_of}
 use Rattle.std.specs.List.{AllByRecursion}
 use Rattle.type_table.specs.SameTrace.{AreBoth, IsSameEvent, IsSameTrace}
 use Rattle.type_table.specs.Table.{Table}
-use Rattle.type_table.specs.TraceMetas.{EventIn, IsSoundMeta, MetaParts, same_event}
+use Rattle.type_table.specs.TraceMetas.{EventIn, IsSoundMeta, TraceMetaModel, same_event}
 use Rattle.type_table.specs.declared.declared.EventId.{EventId}
 use Rattle.type_table.specs.declared.declared.EventParts.{EventParts}
 use Rattle.ctf_fields.specs.declared.open_struct.Scopes.{Scopes}
@@ -18,7 +18,7 @@ use Rattle.ctf_fields.proofs.AlikeFields.{last_alike, named_alike, number_alike}
 use Rattle.ctf_fields.proofs.AlikeReading.{struct_alike}
 use Rattle.trace_types.specs.declared.cause.Cause.{Cause}
 use Rattle.trace_types.specs.declared.cause.Cause.TheVariants as cause
-use Rattle.packet_decoder.specs.Events.{Within, as_packet, as_result, cause_of, cleared, decoded, event, event_added, event_at, event_body, event_by, event_fields, event_head, event_of, event_timed, events_from, field_or_none, from_of, head_by, packet_events, scope_at, with_event_context, with_event_header, with_stream_context, within}
+use Rattle.packet_decoder.specs.Events.{PacketModel, as_packet, as_result, cause_of, cleared, decoded, event, event_added, event_at, event_body, event_by, event_fields, event_head, event_of, event_timed, events_from, field_or_none, from_of, head_by, packet_events, scope_at, with_event_context, with_event_header, with_stream_context, within}
 use Rattle.packet_decoder.specs.PacketHeads.{and_then}
 use Rattle.packet_decoder.specs.Times.{clock_after, clock_of, in_range, rate_of, time_of, time_after, usual_rate}
 use Rattle.packet_decoder.specs.Values.{id_in}
@@ -29,7 +29,7 @@ use Rattle.packet_decoder.specs.declared.piece.PacketResult.{PacketResult}
 use Rattle.packet_decoder.specs.declared.piece.PacketResult.TheVariants as result
 use Rattle.packet_decoder.specs.declared.piece.PacketSpan.{PacketSpan}
 use Rattle.packet_decoder.specs.declared.times.Timestamp.{Timestamp}
-use Rattle.packet_decoder.proofs.AlikePacketHeads.{AlikePacketHead, AnswersBoth, SamePlace, SameScopes, same_heading, same_place, same_scope_read}
+use Rattle.packet_decoder.proofs.AlikePacketHeads.{AlikePacketHead, AnswersBoth, SameIndex, SameScopes, same_heading, same_index, same_scope_read}
 use Rattle.packet_decoder.proofs.AlikeValues.{same_id_number, same_stamp}
 
 -- ---- what is read in two packets alike
@@ -50,7 +50,7 @@ AlikePackets t u (result.Events rs) (result.Events ss) = AlikeRaws t u rs ss
 AlikePackets t u (result.Refused c) (result.Refused d) = c ≡ d
 AlikePackets t u _ _ = ⊥
 
-record AlikeWithin (w v : Within) : Type 0 where
+record AlikeWithin (w v : PacketModel) : Type 0 where
   left : IsSoundMeta w.meta
   right : IsSoundMeta v.meta
   same : IsSameTrace w.meta v.meta
@@ -60,7 +60,7 @@ record AlikeWithin (w v : Within) : Type 0 where
   parts : SameScopes w.meta.table v.meta.table w.parts v.parts
   cpu : w.cpu ≡ v.cpu
 
--- a field of a scope, and one place after it
+-- a field of a scope, and one bit after it
 abbrev AlikeEnds : Table → Table → (Option Field × ℕ) → (Option Field × ℕ) → Type 0
 AlikeEnds t u x y = AlikeIf t u x.0 y.0 × (x.1 ≡ y.1)
 
@@ -81,8 +81,8 @@ results_alike t u (Fails c) (Fails d) h = ap cause_of h
 
 record AlikeParts (t u : Table) (p q : EventParts) : Type 0 where
   name : p.name ≡ q.name
-  context : SamePlace t u p.context q.context
-  fields : SamePlace t u p.fields q.fields
+  context : SameIndex t u p.context q.context
+  fields : SameIndex t u p.fields q.fields
 
 abbrev AlikeEvents : Table → Table → Option (ℕ × EventParts) → Option (ℕ × EventParts) → Type 0
 AlikeEvents t u None None = Unit {0}
@@ -95,33 +95,33 @@ keys_alike t u [] (f ∷ fs) h = absurd h
 keys_alike t u (e ∷ es) [] h = absurd h
 keys_alike t u (e ∷ es) (f ∷ fs) h = ap₂ (λ k ks. k ∷ ks) h.0.id (keys_alike t u es fs h.1)
 
-event_alike : (t u : Table) (place i : ℕ) (es fs : List (EventId × EventParts)) → AreBoth (IsSameEvent t u) es fs → AllByRecursion (EventIn t) es → AllByRecursion (EventIn u) fs
-    → AlikeEvents t u (option_map (λ event. (place, event.1)) (slice_get es i)) (option_map (λ event. (place, event.1)) (slice_get fs i))
-event_alike t u place i [] [] h a b = tt
-event_alike t u place i [] (f ∷ fs) h a b = absurd h
-event_alike t u place i (e ∷ es) [] h a b = absurd h
-event_alike t u place zero (e ∷ es) (f ∷ fs) h a b = (
+event_alike : (t u : Table) (index i : ℕ) (es fs : List (EventId × EventParts)) → AreBoth (IsSameEvent t u) es fs → AllByRecursion (EventIn t) es → AllByRecursion (EventIn u) fs
+    → AlikeEvents t u (option_map (λ event. (index, event.1)) (slice_get es i)) (option_map (λ event. (index, event.1)) (slice_get fs i))
+event_alike t u index i [] [] h a b = tt
+event_alike t u index i [] (f ∷ fs) h a b = absurd h
+event_alike t u index i (e ∷ es) [] h a b = absurd h
+event_alike t u index zero (e ∷ es) (f ∷ fs) h a b = (
   refl,
   record {
     name = h.0.name;
-    context = same_place t u e.1.context f.1.context h.0.context a.0.0 b.0.0;
-    fields = same_place t u e.1.fields f.1.fields h.0.fields a.0.1 b.0.1;
+    context = same_index t u e.1.context f.1.context h.0.context a.0.0 b.0.0;
+    fields = same_index t u e.1.fields f.1.fields h.0.fields a.0.1 b.0.1;
   },
 )
-event_alike t u place (suc i) (e ∷ es) (f ∷ fs) h a b = event_alike t u place i es fs h.1 a.1 b.1
+event_alike t u index (suc i) (e ∷ es) (f ∷ fs) h a b = event_alike t u index i es fs h.1 a.1 b.1
 
-event_at_alike : (m n : MetaParts) → IsSoundMeta m → IsSoundMeta n → IsSameTrace m n → (place : Option ℕ) → AlikeEvents m.table n.table (event_at m place) (event_at n place)
+event_at_alike : (m n : TraceMetaModel) → IsSoundMeta m → IsSoundMeta n → IsSameTrace m n → (index : Option ℕ) → AlikeEvents m.table n.table (event_at m index) (event_at n index)
 event_at_alike m n sm sn same None = tt
-event_at_alike m n sm sn same (Some place) = event_alike m.table n.table place place m.declared.events n.declared.events same.events sm.inside.declared.events sn.inside.declared.events
+event_at_alike m n sm sn same (Some index) = event_alike m.table n.table index index m.declared.events n.declared.events same.events sm.inside.declared.events sn.inside.declared.events
 
-event_by_alike : (m n : MetaParts) → IsSoundMeta m → IsSoundMeta n → IsSameTrace m n → (stream : ℕ) (id : Option ℕ) → AlikeEvents m.table n.table (event_by m stream id) (event_by n stream id)
+event_by_alike : (m n : TraceMetaModel) → IsSoundMeta m → IsSoundMeta n → IsSameTrace m n → (stream : ℕ) (id : Option ℕ) → AlikeEvents m.table n.table (event_by m stream id) (event_by n stream id)
 event_by_alike m n sm sn same stream None = tt
 event_by_alike m n sm sn same stream (Some id) =
     subst (λ keys. AlikeEvents m.table n.table (event_at m (position (same_event (record { stream = stream; id = id })) (keys_of m.declared.events))) (event_at n (position (same_event (record { stream = stream; id = id })) keys)))
     (keys_alike m.table n.table m.declared.events n.declared.events same.events)
     (event_at_alike m n sm sn same (position (same_event (record { stream = stream; id = id })) (keys_of m.declared.events)))
 
-event_of_alike : (m n : MetaParts) → IsSoundMeta m → IsSoundMeta n → IsSameTrace m n → (stream : ℕ) (f g : Option Field) → AlikeIf m.table n.table f g → AlikeEvents m.table n.table (event_of m stream f) (event_of n stream g)
+event_of_alike : (m n : TraceMetaModel) → IsSoundMeta m → IsSoundMeta n → IsSameTrace m n → (stream : ℕ) (f g : Option Field) → AlikeIf m.table n.table f g → AlikeEvents m.table n.table (event_of m stream f) (event_of n stream g)
 event_of_alike m n sm sn same stream f g h =
     let id : id_in (number_of (last_named m.table.names (codes "id") f)) ≡ id_in (number_of (last_named n.table.names (codes "id") g))
     = same_id_number m.table n.table _ _ (number_alike m.table n.table _ _ (last_alike m.table n.table (codes "id") f g h)) in
@@ -129,11 +129,11 @@ event_of_alike m n sm sn same stream f g h =
 
 -- ---- times
 
-rate_alike : (m n : MetaParts) → IsSameTrace m n → (clock : Option ℕ) → rate_of m clock ≡ rate_of n clock
+rate_alike : (m n : TraceMetaModel) → IsSameTrace m n → (clock : Option ℕ) → rate_of m clock ≡ rate_of n clock
 rate_alike m n same None = ap (λ cs. unwrap_or (or_else None (if nat_eq (length cs) 1 then option_map (λ clock. clock.1) (slice_get cs 0) else None)) usual_rate) same.clocks
 rate_alike m n same (Some p) = ap (λ cs. unwrap_or (or_else (option_map (λ clock. clock.1) (slice_get cs p)) (if nat_eq (length cs) 1 then option_map (λ clock. clock.1) (slice_get cs 0) else None)) usual_rate) same.clocks
 
-timed_alike : (m n : MetaParts) → IsSameTrace m n → (timestamp : Option Timestamp) (clock : ℕ) → time_after m timestamp clock ≡ time_after n timestamp clock
+timed_alike : (m n : TraceMetaModel) → IsSameTrace m n → (timestamp : Option Timestamp) (clock : ℕ) → time_after m timestamp clock ≡ time_after n timestamp clock
 unfolding time_after
 timed_alike m n same timestamp clock = ap (λ rate. and_then (clock_after clock timestamp) (λ v. and_then (in_range (time_of rate v)) (λ time. Ok (v, time)))) (rate_alike m n same (clock_of timestamp))
 
@@ -155,11 +155,11 @@ or_none_alike t u (Some f) (Some g) h = h
 abbrev AlikeStep : Table → Table → (RawEvent × Cursor) → (RawEvent × Cursor) → Type 0
 AlikeStep t u x y = AlikeRaw t u x.0 y.0 × (x.1 ≡ y.1)
 
-module _ (w v : Within) (both : AlikeWithin w v) where
-  scope_alike : (s r : Scopes) (a b : Option ℕ) (at to : ℕ) → AlikeScopes w.meta.table v.meta.table s r → SamePlace w.meta.table v.meta.table a b → at ≡ to → AnswersBoth (AlikeEnds w.meta.table v.meta.table) (scope_at w s a at) (scope_at v r b to)
-  scope_alike s r a b at to scopes place is =
+module _ (w v : PacketModel) (both : AlikeWithin w v) where
+  scope_alike : (s r : Scopes) (a b : Option ℕ) (at to : ℕ) → AlikeScopes w.meta.table v.meta.table s r → SameIndex w.meta.table v.meta.table a b → at ≡ to → AnswersBoth (AlikeEnds w.meta.table v.meta.table) (scope_at w s a at) (scope_at v r b to)
+  scope_alike s r a b at to scopes index is =
       subst (λ p. AnswersBoth (AlikeEnds w.meta.table v.meta.table) (scope_at w s a at) (scope_at v r b p)) is
-      (results_alike w.meta.table v.meta.table _ _ (same_scope_read w.meta v.meta both.left both.right both.same (from_of w s) (from_of v r) a b at both.left.table both.right.table both.bytes both.end scopes place))
+      (results_alike w.meta.table v.meta.table _ _ (same_scope_read w.meta v.meta both.left both.right both.same (from_of w s) (from_of v r) a b at both.left.table both.right.table both.bytes both.end scopes index))
 
   head_by_alike : (f g : Option Field) (at to : ℕ) (e d : Option (ℕ × EventParts)) → AlikeIf w.meta.table v.meta.table f g → at ≡ to → AlikeEvents w.meta.table v.meta.table e d → AnswersBoth (AlikeHead w.meta.table v.meta.table) (head_by w f at e) (head_by v g to d)
   head_by_alike f g at to None None h is events = refl
@@ -258,7 +258,7 @@ module _ (w v : Within) (both : AlikeWithin w v) where
 
 -- ---- packets
 
-module _ (m n : MetaParts) (sm : IsSoundMeta m) (sn : IsSoundMeta n) (same : IsSameTrace m n) where
+module _ (m n : TraceMetaModel) (sm : IsSoundMeta m) (sn : IsSoundMeta n) (same : IsSameTrace m n) where
   packet_alike : (rest : List ℕ) (span : PacketSpan) (h k : PacketHead) → AlikePacketHead m n sm sn same h k → AnswersBoth (AlikeRaws m.table n.table) (packet_events m rest span h) (packet_events n rest span k)
   unfolding packet_events
   packet_alike rest span h k a =

@@ -3,12 +3,12 @@ use Rattle.std.proofs.Common.{◌≡◌, ◌∙◌, ℕ, Bool, true, false, cond
 use Rattle.std.specs.Map.{lookup}
 use Rattle.type_table.specs.SameTrace.{AreBoth, IsSameStream, IsSameTrace, IsSameType}
 use Rattle.type_table.specs.Table.{Table, IsSoundTable}
-use Rattle.type_table.specs.TraceMetas.{IfHere, IsSoundMeta, MetaParts, PlaceIn, StreamIn}
+use Rattle.type_table.specs.TraceMetas.{IfHere, IsSoundMeta, TraceMetaModel, IndexIn, StreamIn}
 use Rattle.type_table.specs.declared.declared.StreamScopes.{StreamScopes}
 use Rattle.std.specs.List.{AllByRecursion}
 use Rattle.ctf_fields.specs.declared.field.Field.{Field}
 use Rattle.ctf_fields.specs.Named.{first_named}
-use Rattle.ctf_fields.specs.Reading.{From, Reads, Got, Fails, as_read, scope_read}
+use Rattle.ctf_fields.specs.Reading.{SourceModel, Reads, Got, Fails, as_read, scope_read}
 use Rattle.ctf_fields.proofs.Alike.{Alike, AlikeIf, AlikeScopes, ReadBoth, SameType}
 use Rattle.trace_types.specs.declared.cause.Cause.{Cause}
 use Rattle.trace_types.specs.declared.cause.Cause.TheVariants as cause
@@ -25,22 +25,22 @@ AnswersBoth P (Ok a) (Ok b) = P a b
 AnswersBoth P (Err c) (Err d) = c ≡ d
 AnswersBoth P _ _ = ⊥
 
--- places of one type, where there are any
-abbrev pub SamePlace : Table → Table → Option ℕ → Option ℕ → Type 0
-SamePlace t u None None = Unit {0}
-SamePlace t u (Some a) (Some b) = SameType t u a b
-SamePlace t u _ _ = ⊥
+-- indices of one type, where there are any
+abbrev pub SameIndex : Table → Table → Option ℕ → Option ℕ → Type 0
+SameIndex t u None None = Unit {0}
+SameIndex t u (Some a) (Some b) = SameType t u a b
+SameIndex t u _ _ = ⊥
 
 pub record SameScopes (t u : Table) (s r : StreamScopes) : Type 0 where
-  pub packet_context : SamePlace t u s.packet_context r.packet_context
-  pub event_header : SamePlace t u s.event_header r.event_header
-  pub event_context : SamePlace t u s.event_context r.event_context
+  pub packet_context : SameIndex t u s.packet_context r.packet_context
+  pub event_header : SameIndex t u s.event_header r.event_header
+  pub event_context : SameIndex t u s.event_context r.event_context
 
-pub same_place : (t u : Table) (a b : Option ℕ) → IsSameType t u a b → IfHere (PlaceIn t) a → IfHere (PlaceIn u) b → SamePlace t u a b
-same_place t u None None is h k = tt
-same_place t u None (Some b) is h k = absurd (cc)
-same_place t u (Some a) None is h k = absurd (cc)
-same_place t u (Some a) (Some b) is h k = record { left = h; right = k; same = cc }
+pub same_index : (t u : Table) (a b : Option ℕ) → IsSameType t u a b → IfHere (IndexIn t) a → IfHere (IndexIn u) b → SameIndex t u a b
+same_index t u None None is h k = tt
+same_index t u None (Some b) is h k = absurd (cc)
+same_index t u (Some a) None is h k = absurd (cc)
+same_index t u (Some a) (Some b) is h k = record { left = h; right = k; same = cc }
 
 -- ---- streams
 
@@ -64,9 +64,9 @@ same_lookup t u id (s ∷ ss) (r ∷ rs) both h k =
   where
     by : (b : Bool) → ScopesBoth t u (lookup (nat_eq id) ss) (lookup (nat_eq id) rs) → ScopesBoth t u (cond b (Some s.1) (lookup (nat_eq id) ss)) (cond b (Some r.1) (lookup (nat_eq id) rs))
     by true later = record {
-      packet_context = same_place t u s.1.packet_context r.1.packet_context both.0.packet_context h.0.0 k.0.0;
-      event_header = same_place t u s.1.event_header r.1.event_header both.0.event_header h.0.1 k.0.1;
-      event_context = same_place t u s.1.event_context r.1.event_context both.0.event_context h.0.2 k.0.2;
+      packet_context = same_index t u s.1.packet_context r.1.packet_context both.0.packet_context h.0.0 k.0.0;
+      event_header = same_index t u s.1.event_header r.1.event_header both.0.event_header h.0.1 k.0.1;
+      event_context = same_index t u s.1.event_context r.1.event_context both.0.event_context h.0.2 k.0.2;
     }
     by false later = later
 
@@ -78,7 +78,7 @@ with_id t u id (Some s) (Some r) h = (refl, h)
 
 -- ---- two representations of one trace
 
-module _ (m n : MetaParts) (sm : IsSoundMeta m) (sn : IsSoundMeta n) (same : IsSameTrace m n) where
+module _ (m n : TraceMetaModel) (sm : IsSoundMeta m) (sn : IsSoundMeta n) (same : IsSameTrace m n) where
   same_stream_by : (a b : Option ℕ) → a ≡ b → SameStreams m.table n.table (stream_by m a) (stream_by n b)
   same_stream_by a b is = subst (λ x. SameStreams m.table n.table (stream_by m a) (stream_by n x)) is (at a)
     where
@@ -90,12 +90,12 @@ module _ (m n : MetaParts) (sm : IsSoundMeta m) (sn : IsSoundMeta n) (same : IsS
   same_stream f g h = same_stream_by _ _ (same_id_number m.table n.table _ _ (named_alike m.table n.table (codes "stream_id") f g h))
 
   -- the field of a scope that may be declared
-  pub same_scope_read : (from to : From) (a b : Option ℕ) (at : ℕ) → IsSoundTable from.table → IsSoundTable to.table → from.bytes ≡ to.bytes → from.end ≡ to.end → AlikeScopes from.table to.table from.scopes to.scopes → SamePlace from.table to.table a b
+  pub same_scope_read : (from to : SourceModel) (a b : Option ℕ) (at : ℕ) → IsSoundTable from.table → IsSoundTable to.table → from.bytes ≡ to.bytes → from.end ≡ to.end → AlikeScopes from.table to.table from.scopes to.scopes → SameIndex from.table to.table a b
       → ReadBoth (AlikeIf from.table to.table) (read_scope from a at) (read_scope to b at)
-  same_scope_read from to None None at sf st bytes end scopes place = (tt, refl)
-  same_scope_read from to None (Some b) at sf st bytes end scopes place = absurd place
-  same_scope_read from to (Some a) None at sf st bytes end scopes place = absurd place
-  same_scope_read from to (Some a) (Some b) at sf st bytes end scopes place = by (scope_read from a at) (scope_read to b at) (reads_alike from to a b at sf st bytes end scopes place)
+  same_scope_read from to None None at sf st bytes end scopes index = (tt, refl)
+  same_scope_read from to None (Some b) at sf st bytes end scopes index = absurd index
+  same_scope_read from to (Some a) None at sf st bytes end scopes index = absurd index
+  same_scope_read from to (Some a) (Some b) at sf st bytes end scopes index = by (scope_read from a at) (scope_read to b at) (reads_alike from to a b at sf st bytes end scopes index)
     where
       by : (x y : Reads Field) → ReadBoth (Alike from.table to.table) x y → ReadBoth (AlikeIf from.table to.table) (as_read Some x) (as_read Some y)
       by (Got f p) (Got g q) h = h
@@ -164,4 +164,4 @@ module _ (m n : MetaParts) (sm : IsSoundMeta m) (sn : IsSoundMeta n) (same : IsS
       same_header rest _ _
       (same_scope_read (from_all m rest no_scopes) (from_all n rest no_scopes) m.packet_header n.packet_header 0 sm.table sn.table refl refl
       (record { packet_header = tt; packet_context = tt; event_header = tt; stream_context = tt; event_context = tt; event_fields = tt })
-      (same_place m.table n.table m.packet_header n.packet_header same.header sm.inside.header sn.inside.header))
+      (same_index m.table n.table m.packet_header n.packet_header same.header sm.inside.header sn.inside.header))

@@ -1,7 +1,7 @@
 -- The pieces of a stream file are the same by two representations of one trace.
 use Rattle.std.proofs.Common.{◌≡◌, ◌∙◌, ℕ, zero, suc, ◌+◌, ◌*◌, ◌^◌, List, [], ◌∷◌, length, drop, Option, Some, None, Result, Ok, Err, codes, unwrap_or, refl, ap, ap₂}
 use Rattle.type_table.specs.SameTrace.{IsSameTrace}
-use Rattle.type_table.specs.TraceMetas.{IsSoundMeta, MetaParts}
+use Rattle.type_table.specs.TraceMetas.{IsSoundMeta, TraceMetaModel}
 use Rattle.ctf_fields.specs.declared.field.Field.{Field}
 use Rattle.ctf_fields.specs.Values.{below_if_any, number_named, value_named}
 use Rattle.ctf_fields.proofs.Alike.{AlikeIf}
@@ -28,7 +28,7 @@ same_parts offset s start start2 stream stream2 begin begin2 cpu cpu2 seq seq2 d
     ap (λ x. Ok (span_parts offset s x stream begin cpu seq discarded)) a ∙ (ap (λ x. Ok (span_parts offset s start2 x begin cpu seq discarded)) b ∙ (ap (λ x. Ok (span_parts offset s start2 stream2 x cpu seq discarded)) c
     ∙ (ap (λ x. Ok (span_parts offset s start2 stream2 begin2 x seq discarded)) d ∙ (ap (λ x. Ok (span_parts offset s start2 stream2 begin2 cpu2 x discarded)) e ∙ ap (λ x. Ok (span_parts offset s start2 stream2 begin2 cpu2 seq2 x)) f))))
 
-module _ (m n : MetaParts) (sm : IsSoundMeta m) (sn : IsSoundMeta n) (same : IsSameTrace m n) where
+module _ (m n : TraceMetaModel) (sm : IsSoundMeta m) (sn : IsSoundMeta n) (same : IsSameTrace m n) where
   same_value : (name : List ℕ) (f g : Option Field) → AlikeIf m.table n.table f g → value_named m.table name f ≡ value_named n.table name g
   same_value name f g h = value_alike m.table n.table name f g h
 

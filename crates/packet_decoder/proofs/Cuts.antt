@@ -1,7 +1,7 @@
 -- A file that is cut piece by piece.
 use Rattle.std.proofs.Common.{◌≡◌, ◌∙◌, ℕ, zero, suc, ◌+◌, ◌-◌, ◌<◌, ◌≤◌, ◌++◌, List, [], ◌∷◌, length, drop, Ok, Err, refl, sym, ap, arith}
 use Rattle.std.proofs.lemmas.List.{append_assoc, append-nil, drop_all, length-append, length-drop}
-use Rattle.type_table.specs.TraceMetas.{MetaParts}
+use Rattle.type_table.specs.TraceMetas.{TraceMetaModel}
 use Rattle.trace_types.specs.declared.cause.Cause.{Cause}
 use Rattle.packet_decoder.specs.declared.piece.PacketSpan.{PacketSpan}
 use Rattle.packet_decoder.specs.declared.piece.Piece.{Piece}
@@ -9,7 +9,7 @@ use Rattle.packet_decoder.specs.declared.piece.Piece.TheVariants.{Packet, Bad}
 use Rattle.packet_decoder.specs.Packets.{packets_in}
 use Rattle.packet_decoder.specs.Pieces.{AllLieIn, PieceLiesIn, packet_at, pieces_by, pieces_from}
 
-one_packet : (n m : ℕ) (meta : MetaParts) (offset : ℕ) (rest : List ℕ) (span : PacketSpan) → n ≡ suc m → 1 ≤ length rest → packet_at meta offset rest ≡ Ok span
+one_packet : (n m : ℕ) (meta : TraceMetaModel) (offset : ℕ) (rest : List ℕ) (span : PacketSpan) → n ≡ suc m → 1 ≤ length rest → packet_at meta offset rest ≡ Ok span
     → pieces_from n meta offset rest ≡ Packet span ∷ pieces_from m meta (offset + span.bytes) (drop span.bytes rest)
 unfolding pieces_from
 one_packet n m meta offset [] span is some found = absurd (omega (arith, some))
@@ -17,7 +17,7 @@ one_packet n m meta offset (b ∷ rest) span is some found =
     ap (λ k. pieces_from k meta offset (b ∷ rest)) is
     ∙ ap (λ r. pieces_by r offset (λ s. pieces_from m meta (offset + s.bytes) (drop s.bytes (b ∷ rest)))) found
 
-one_bad : (n m : ℕ) (meta : MetaParts) (offset : ℕ) (rest : List ℕ) (cause : Cause) → n ≡ suc m → 1 ≤ length rest → packet_at meta offset rest ≡ Err cause
+one_bad : (n m : ℕ) (meta : TraceMetaModel) (offset : ℕ) (rest : List ℕ) (cause : Cause) → n ≡ suc m → 1 ≤ length rest → packet_at meta offset rest ≡ Err cause
     → pieces_from n meta offset rest ≡ Bad offset cause ∷ []
 unfolding pieces_from
 one_bad n m meta offset [] cause is some found = absurd (omega (arith, some))
@@ -25,7 +25,7 @@ one_bad n m meta offset (b ∷ rest) cause is some found =
     ap (λ k. pieces_from k meta offset (b ∷ rest)) is
     ∙ ap (λ r. pieces_by r offset (λ s. pieces_from m meta (offset + s.bytes) (drop s.bytes (b ∷ rest)))) found
 
-none_left : (n : ℕ) (meta : MetaParts) (offset : ℕ) → pieces_from n meta offset [] ≡ []
+none_left : (n : ℕ) (meta : TraceMetaModel) (offset : ℕ) → pieces_from n meta offset [] ≡ []
 unfolding pieces_from
 none_left zero meta offset = refl
 none_left (suc n) meta offset = refl
@@ -42,7 +42,7 @@ drop_twice (b ∷ bytes) (suc i) j = drop_twice bytes i j ∙ ap (λ n. drop n (
     suc_plus i j = omega arith
 
 -- with a packet more
-pub goes_on : (meta : MetaParts) (file : List ℕ) (offset : ℕ) (found : List Piece) (span : PacketSpan) → offset < length file → length found ≤ offset → packet_at meta offset (drop offset file) ≡ Ok span
+pub goes_on : (meta : TraceMetaModel) (file : List ℕ) (offset : ℕ) (found : List Piece) (span : PacketSpan) → offset < length file → length found ≤ offset → packet_at meta offset (drop offset file) ≡ Ok span
     → found ++ pieces_from (length file - length found) meta offset (drop offset file)
     ≡ (found ++ Packet span ∷ []) ++ pieces_from (length file - length (found ++ Packet span ∷ [])) meta (offset + span.bytes) (drop (offset + span.bytes) file)
 goes_on meta file offset found span left few is =
@@ -51,13 +51,13 @@ goes_on meta file offset found span left few is =
     ∙ sym (append_assoc found (Packet span ∷ []) (pieces_from (length file - length (found ++ Packet span ∷ [])) meta (offset + span.bytes) (drop (offset + span.bytes) file)))
 
 -- with the last piece
-pub ends_badly : (meta : MetaParts) (file : List ℕ) (offset : ℕ) (found : List Piece) (cause : Cause) → offset < length file → length found ≤ offset → packet_at meta offset (drop offset file) ≡ Err cause
+pub ends_badly : (meta : TraceMetaModel) (file : List ℕ) (offset : ℕ) (found : List Piece) (cause : Cause) → offset < length file → length found ≤ offset → packet_at meta offset (drop offset file) ≡ Err cause
     → found ++ pieces_from (length file - length found) meta offset (drop offset file) ≡ found ++ Bad offset cause ∷ []
 ends_badly meta file offset found cause left few is =
     ap (λ ps. found ++ ps) (one_bad (length file - length found) (length file - length found - 1) meta offset (drop offset file) cause (omega (arith, left, few)) (omega (arith, left, length-drop offset file)) is)
 
 -- at the end
-pub ends_well : (meta : MetaParts) (file : List ℕ) (offset n : ℕ) (found : List Piece) → length file ≤ offset → found ++ pieces_from n meta offset (drop offset file) ≡ found
+pub ends_well : (meta : TraceMetaModel) (file : List ℕ) (offset n : ℕ) (found : List Piece) → length file ≤ offset → found ++ pieces_from n meta offset (drop offset file) ≡ found
 ends_well meta file offset n found h = ap (λ ps. found ++ ps) (ap (pieces_from n meta offset) (drop_all offset file h) ∙ none_left n meta offset) ∙ append-nil found
 
 pub lie_push : (file : List ℕ) (found : List Piece) (p : Piece) → AllLieIn file found → PieceLiesIn file p → AllLieIn file (found ++ p ∷ [])

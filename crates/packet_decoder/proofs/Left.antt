@@ -3,11 +3,11 @@ use Rattle.std.proofs.Common.{◌≡◌, ◌∙◌, ℕ, zero, suc, ◌+◌, ◌
 use Rattle.ctf_fields.specs.declared.open_struct.Scopes.{Scopes}
 use Rattle.ctf_fields.specs.declared.raw.RawEvent.{RawEvent}
 use Rattle.packet_decoder.specs.declared.piece.PacketResult.TheVariants as packet
-use Rattle.packet_decoder.specs.Events.{Within, as_packet, event, event_added, events_from}
+use Rattle.packet_decoder.specs.Events.{PacketModel, as_packet, event, event_added, events_from}
 use Rattle.packet_decoder.specs.PacketHeads.{Answers, and_then}
 use Rattle.packet_decoder.specs.declared.failure.Failure.{Failure}
 use Rattle.packet_decoder.specs.declared.failure.Failure.TheVariants.{Refused, OutOfMemory}
-use Rattle.packet_decoder.specs.Unread.{and_before, refusal}
+use Rattle.packet_decoder.specs.EventReaders.{and_before, refusal}
 use Rattle.trace_types.specs.declared.cause.Cause.{Cause}
 use Rattle.packet_decoder.specs.declared.events.Cursor.{Cursor}
 use Rattle.packet_decoder.proofs.Turns.{step_in}
@@ -25,7 +25,7 @@ behind_both done more (Ok es) = ap Ok (append_assoc done more es)
 behind_both done more (Err c) = refl
 
 -- what was read stays before what is left
-kept : (n : ℕ) (w : Within) (s : Scopes) (done : List RawEvent) (c : Cursor) → events_from n w s done c ≡ behind done (events_from n w s [] c)
+kept : (n : ℕ) (w : PacketModel) (s : Scopes) (done : List RawEvent) (c : Cursor) → events_from n w s done c ≡ behind done (events_from n w s [] c)
 unfolding events_from
 kept zero w s done c = ap Ok (sym (append-nil done))
 kept (suc n) w s done c = by (nat_lt c.at w.end) (event w s c) (λ more next. kept n w s more next)
@@ -44,21 +44,21 @@ as_before : (raw : RawEvent) (x : Answer) → behind (raw ∷ []) x ≡ and_befo
 as_before raw (Ok es) = refl
 as_before raw (Err c) = refl
 
-pub one_read : (w : Within) (s after : Scopes) (c next : Cursor) (read : ℕ) (raw : RawEvent) → read ≤ c.at → c.at < w.end → after ≡ s → event w s c ≡ Ok (raw, next)
+pub one_read : (w : PacketModel) (s after : Scopes) (c next : Cursor) (read : ℕ) (raw : RawEvent) → read ≤ c.at → c.at < w.end → after ≡ s → event w s c ≡ Ok (raw, next)
     → events_from (w.end - read) w s [] c ≡ and_before raw (events_from (w.end - (read + 1)) w after [] next)
 one_read w s after c next read raw few left same e =
     let added : event_added w s [] c ≡ Ok (raw ∷ [], next) = ap (λ x. and_then x (λ r. Ok ([] ++ r.0 ∷ [], r.1))) e in
     step_in (w.end - read) (w.end - (read + 1)) w s [] c (Ok (raw ∷ [], next)) (omega (arith, few, left)) left added
     ∙ (kept (w.end - (read + 1)) w s (raw ∷ []) next ∙ (as_before raw (events_from (w.end - (read + 1)) w s [] next) ∙ ap (λ x. and_before raw (events_from (w.end - (read + 1)) w x [] next)) (sym same)))
 
-pub refused_read : (w : Within) (s : Scopes) (c : Cursor) (read : ℕ) (cause : Cause) → read ≤ c.at → c.at < w.end → event w s c ≡ Err cause → events_from (w.end - read) w s [] c ≡ Err cause
+pub refused_read : (w : PacketModel) (s : Scopes) (c : Cursor) (read : ℕ) (cause : Cause) → read ≤ c.at → c.at < w.end → event w s c ≡ Err cause → events_from (w.end - read) w s [] c ≡ Err cause
 refused_read w s c read cause few left e =
     step_in (w.end - read) (w.end - (read + 1)) w s [] c (Err cause) (omega (arith, few, left)) left (ap (λ x. and_then x (λ r. Ok ([] ++ r.0 ∷ [], r.1))) e)
 
 abbrev err : {A : Type 0} → Failure → Result A Failure
 err e = Err e
 
-pub refused_by : {A : Type 0} (w : Within) (s : Scopes) (c : Cursor) (read : ℕ) (cause : Cause) (e : Failure) → err {A = A} (Refused cause) ≡ err {A = A} e → read ≤ c.at → c.at < w.end → Answers (event w s c) (Err e) → events_from (w.end - read) w s [] c ≡ Err cause
+pub refused_by : {A : Type 0} (w : PacketModel) (s : Scopes) (c : Cursor) (read : ℕ) (cause : Cause) (e : Failure) → err {A = A} (Refused cause) ≡ err {A = A} e → read ≤ c.at → c.at < w.end → Answers (event w s c) (Err e) → events_from (w.end - read) w s [] c ≡ Err cause
 refused_by w s c read cause (Refused other) same few left h = let is : cause ≡ other = cc in refused_read w s c read cause few left (h ∙ ap Err (sym is))
 refused_by w s c read cause OutOfMemory same few left h = absurd (cc)
 

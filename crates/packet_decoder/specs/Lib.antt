@@ -3,5 +3,5 @@ pub mod PacketHeads
 pub mod Pieces
 pub mod Times
 pub mod Values
-pub mod Unread
+pub mod EventReaders
 pub mod Packets

@@ -1,7 +1,7 @@
 -- The pieces that a stream file is cut into (CTF 1.8, section 5; the sizes that are taken for missing ones, and the order of the checks, are this project's own).
 use Rattle.std.specs.Prelude.{ℕ, zero, suc, ℤ, pos, ◌+◌, ◌*◌, ◌/◌, ◌%◌, ◌^◌, ◌≤◌, ◌&&◌, ◌==◌, nat_le, List, [], ◌∷◌, length, drop, Option, Some, None, Result, Ok, Err, codes, unwrap_or, if◌then◌else◌}
 use Rattle.type_table.specs.Table.{Table}
-use Rattle.type_table.specs.TraceMetas.{MetaParts}
+use Rattle.type_table.specs.TraceMetas.{TraceMetaModel}
 use Rattle.ctf_fields.specs.declared.field.Field.{Field}
 use Rattle.packet_decoder.specs.PacketHeads.{and_then, packet_head}
 use Rattle.packet_decoder.specs.Values.{below_if_any, counter_in, number_named, value_named}
@@ -39,28 +39,28 @@ span_by t offset context h (Some s) = Ok (record {
   discarded = counter_in t (number_named t (codes "events_discarded") context);
 })
 
--- a packet with this head, at this place in a file of which so many bits are left
+-- a packet with this head, at this offset in a file of which so many bits are left
 unfoldable pub span_of : Table → ℕ → ℕ → PacketHead → Result PacketSpan Cause
 span_of t offset left h =
     span_by t offset h.scopes.packet_context h (sizes left h.start (value_named t (codes "packet_size") h.scopes.packet_context) (value_named t (codes "content_size") h.scopes.packet_context))
 
--- the packet that these bytes begin with, which lie at this place in a file
-unfoldable pub packet_at : MetaParts → ℕ → List ℕ → Result PacketSpan Cause
+-- the packet that these bytes begin with, which lie at this offset in a file
+unfoldable pub packet_at : TraceMetaModel → ℕ → List ℕ → Result PacketSpan Cause
 packet_at meta offset rest = and_then (packet_head meta rest) (span_of meta.table offset (8 * length rest))
 
 abbrev pub pieces_by : Result PacketSpan Cause → ℕ → (PacketSpan → List Piece) → List Piece
 pieces_by (Ok span) offset more = piece.Packet span ∷ more span
 pieces_by (Err cause) offset more = piece.Bad offset cause ∷ []
 
--- the pieces of what is left from a place in a file on, of which each takes a byte at least: so many at most
-unfoldable pub pieces_from : ℕ → MetaParts → ℕ → List ℕ → List Piece
+-- the pieces of what is left from an offset in a file on, of which each takes a byte at least: so many at most
+unfoldable pub pieces_from : ℕ → TraceMetaModel → ℕ → List ℕ → List Piece
 pieces_from zero meta offset rest = []
 pieces_from (suc most) meta offset [] = []
 pieces_from (suc most) meta offset (b ∷ rest) =
     pieces_by (packet_at meta offset (b ∷ rest)) offset (λ span. pieces_from most meta (offset + span.bytes) (drop span.bytes (b ∷ rest)))
 
--- one packet after the other, up to the end or to a place where none can be cut
-abbrev pub pieces : MetaParts → List ℕ → List Piece
+-- one packet after the other, up to the end or to an offset where none can be cut
+abbrev pub pieces : TraceMetaModel → List ℕ → List Piece
 pieces meta file = pieces_from (length file) meta 0 file
 
 -- a packet that lies in a file, and whose content lies in it

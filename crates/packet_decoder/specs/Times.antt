@@ -2,7 +2,7 @@
 use Rattle.std.specs.Prelude.{ℕ, ℤ, pos, ◌+◌, ◌-◌, ◌%◌, ◌^◌, ◌+ℤ◌, ◌*ℤ◌, ◌&&◌, nat_eq, nat_le, nat_lt, length, Option, Some, None, Result, Ok, Err, option_map, slice_get, unwrap_or, if◌then◌else◌}
 use Rattle.std.specs.Int.{int_div_euclid}
 use Rattle.type_table.specs.Table.{Table}
-use Rattle.type_table.specs.TraceMetas.{MetaParts}
+use Rattle.type_table.specs.TraceMetas.{TraceMetaModel}
 use Rattle.type_table.specs.declared.integer.Integer.{Integer}
 use Rattle.type_table.specs.declared.declared.ClockRate.{ClockRate}
 use Rattle.ctf_fields.specs.Fields.{or_else}
@@ -36,22 +36,22 @@ clock_after clock (Some s) =
 abbrev pub usual_rate : ClockRate
 usual_rate = record { freq = 1000000000; offset = pos 0; offset_s = pos 0 }
 
-abbrev pub rate_at : MetaParts → ℕ → Option ClockRate
-rate_at meta place = option_map (λ clock. clock.1) (slice_get meta.declared.clocks place)
+abbrev pub rate_at : TraceMetaModel → ℕ → Option ClockRate
+rate_at meta index = option_map (λ clock. clock.1) (slice_get meta.declared.clocks index)
 
-abbrev pub rate_mapped : MetaParts → Option ℕ → Option ClockRate
+abbrev pub rate_mapped : TraceMetaModel → Option ℕ → Option ClockRate
 rate_mapped meta None = None
-rate_mapped meta (Some place) = rate_at meta place
+rate_mapped meta (Some index) = rate_at meta index
 
 abbrev pub clock_of : Option Timestamp → Option ℕ
 clock_of None = None
 clock_of (Some s) = s.clock
 
-abbrev pub only_rate : MetaParts → Option ClockRate
+abbrev pub only_rate : TraceMetaModel → Option ClockRate
 only_rate meta = if nat_eq (length meta.declared.clocks) 1 then rate_at meta 0 else None
 
 -- the clock that the timestamp's type names, and else the only one that is declared
-abbrev pub rate_of : MetaParts → Option ℕ → ClockRate
+abbrev pub rate_of : TraceMetaModel → Option ℕ → ClockRate
 rate_of meta clock = unwrap_or (or_else (rate_mapped meta clock) (only_rate meta)) usual_rate
 
 -- the time of a clock's value in nanoseconds, rounded down
@@ -64,5 +64,5 @@ in_range (pos n) = if nat_le 1 n && nat_le n 4611686018427387903 then Ok n else 
 in_range _ = Err cause.TimeRange
 
 -- the clock's value after a timestamp, and the time then
-unfoldable pub time_after : MetaParts → Option Timestamp → ℕ → Result (ℕ × ℕ) Cause
+unfoldable pub time_after : TraceMetaModel → Option Timestamp → ℕ → Result (ℕ × ℕ) Cause
 time_after meta timestamp clock = and_then (clock_after clock timestamp) (λ v. and_then (in_range (time_of (rate_of meta (clock_of timestamp)) v)) (λ time. Ok (v, time)))

@@ -14,7 +14,7 @@ use std::alloc::Global;
 use trace_types::{Cause, OutOfMemory};
 use type_table::{Table, TraceMeta};
 
-/// The pieces of a stream file, in order: packets without a gap between them, up to the end or to a place where no
+/// The pieces of a stream file, in order: packets without a gap between them, up to the end or to an offset where no
 /// packet can be cut; what lies after that is the last piece.
 pub fn cut(alloc: Global, meta: &TraceMeta, file: &[u8]) -> Result<Items<Piece>, OutOfMemory>
     requires { length file.now ≤ 2 ^ 60 }
@@ -72,7 +72,7 @@ pub fn bytes_from(file: &[u8], offset: u64) -> &[u8]
     }
 }
 
-// The packet that these bytes begin with, which lie at this place in a file.
+// The packet that these bytes begin with, which lie at this offset in a file.
 #[tactic(auto, unfolding(crate::specs::Pieces::packet_at))]
 fn packet_at(
     alloc: Global,
@@ -88,7 +88,7 @@ fn packet_at(
     span_of(meta.table(), offset, 8 * rest.len() as u64, &packet_head)
 }
 
-// A packet with this head, at this place in a file of which so many bits are left.
+// A packet with this head, at this offset in a file of which so many bits are left.
 #[tactic(auto, unfolding(crate::specs::Pieces::span_of))]
 fn span_of(
     table: &Table,

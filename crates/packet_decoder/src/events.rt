@@ -29,9 +29,9 @@ pub struct Packet<'a> {
 
 impl<'a> Model for Packet<'a> {
     ghost use Rattle.ctf_fields.specs.Leaves.{IsSpan};
-    ghost use Rattle.packet_decoder.specs.Events.{Within};
+    ghost use Rattle.packet_decoder.specs.Events.{PacketModel};
 
-    ghost Value = { Within };
+    ghost Value = { PacketModel };
 
     ghost view = { λ p. record { meta = p.meta.now; bytes = p.bits.bytes.now; end = p.bits.end; stream = p.stream; parts = p.parts; cpu = p.cpu } };
 
@@ -45,7 +45,7 @@ pub struct Cursor {
     pub at: u64,
 }
 
-/// An event's header, the first bit after it, the event's place among those that are declared, the types of its
+/// An event's header, the first bit after it, the event's index among those that are declared, the types of its
 /// scopes, and its timestamp.
 #[derive(Debug, Drop)]
 pub struct EventHead {
@@ -56,7 +56,7 @@ pub struct EventHead {
     pub timestamp: Option<Timestamp>,
 }
 
-// The field of a scope, and the place after it.
+// The field of a scope, and the bit after it.
 fn scope_at(
     alloc: Global,
     packet: &Packet<'_>,
@@ -81,13 +81,13 @@ fn scope_at(
     }
 }
 
-// The place of the event of an id, and the types of its scopes.
+// The index of the event of an id, and the types of its scopes.
 fn event_by(meta: &TraceMeta, stream: u64, id: Option<u64>) -> Option<(u32, EventParts)>
     ensures { result ≡ event_by meta.now stream id }
 {
-    let place = meta.find_event(stream, id?)?;
-    let (_, parts) = meta.event(place)?;
-    Some((place, parts))
+    let index = meta.find_event(stream, id?)?;
+    let (_, parts) = meta.event(index)?;
+    Some((index, parts))
 }
 
 // The header, what event it names, and its timestamp.
@@ -196,7 +196,7 @@ fn field_or_none(alloc: Global, field: Option<Field>) -> Field
     }
 }
 
-/// The event at a place, and what stands after it.
+/// The event at a bit, and what stands after it.
 #[tactic(auto, unfolding(crate::specs::Events::event))]
 pub fn read_event(
     alloc: Global,

@@ -37,7 +37,7 @@ fn no_scopes() -> Scopes
     }
 }
 
-/// The field of a scope that may be declared, and the place after it. `scratch` is memory for structures that are
+/// The field of a scope that may be declared, and the bit after it. `scratch` is memory for structures that are
 /// being read.
 pub fn read_scope(
     alloc: Global,

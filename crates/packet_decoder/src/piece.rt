@@ -10,7 +10,7 @@ pub struct Counter {
     pub size: u32,
 }
 
-/// A packet: its place and length in bytes, the first bit of its events and the bit after its content, counted
+/// A packet: its offset and length in bytes, the first bit of its events and the bit after its content, counted
 /// from its first bit, its stream's id, the processor that wrote it, and the clock's value where it begins. `seq` is
 /// its number among the stream's packets, and `discarded` the count of the events that the tracer lost before it ended.
 #[derive(Clone, Copy, Debug, PartialEq, Eq)]

@@ -2,7 +2,7 @@
 ghost use Rattle.std.specs.Prelude.{◌≡◌, ◌≤◌, ◌<◌, ◌+◌, ◌^◌, Ok, Err, None, Some, IfOk, IfSome, IfNone, OnOk, [], length};
 ghost use Rattle.packet_decoder.specs.Events.{as_packet, decoded};
 ghost use Rattle.packet_decoder.specs.Pieces.{LiesIn};
-ghost use Rattle.packet_decoder.specs.Unread.{and_before, events_left, refusal};
+ghost use Rattle.packet_decoder.specs.EventReaders.{and_before, events_left, refusal};
 ghost use Rattle.packet_decoder.specs.declared.failure.Failure.TheVariants as failure;
 ghost use Rattle.packet_decoder.specs.declared.piece.PacketResult.TheVariants as packet;
 ghost use Rattle.trace_types.specs.declared.cause.Cause.{Cause};
@@ -30,11 +30,11 @@ pub struct EventReader<'a> {
 impl<'a> Model for EventReader<'a> {
     ghost use Rattle.std.specs.Prelude.{◌≤◌, ◌^◌};
     ghost use Rattle.packet_decoder.specs.Events.{cleared};
-    ghost use Rattle.packet_decoder.specs.Unread.{Unread};
+    ghost use Rattle.packet_decoder.specs.EventReaders.{EventReaderModel};
     ghost use Rattle.ctf_fields.specs.contracts.field.Field as field;
     ghost use Rattle.std.specs.Coded.{codes};
 
-    ghost Value = { Unread };
+    ghost Value = { EventReaderModel };
 
     ghost coded = { Prim.hlevel (codes, field.the_row.coded) };
 

@@ -13,7 +13,7 @@ const SECOND: i128 = 1_000_000_000;
 /// The greatest time, in ns.
 const LAST_TIME: i128 = 0x3FFF_FFFF_FFFF_FFFF;
 
-/// The timestamp of an event's header, of `size` bits from 1 to 64, and the place of the clock that its type names.
+/// The timestamp of an event's header, of `size` bits from 1 to 64, and the index of the clock that its type names.
 #[derive(Clone, Copy, Debug, PartialEq, Eq)]
 pub struct Timestamp {
     pub value: u64,
@@ -21,7 +21,7 @@ pub struct Timestamp {
     pub clock: Option<u32>,
 }
 
-/// The timestamp that a number is, with the place of its type.
+/// The timestamp that a number is, with the index of its type.
 pub fn timestamp_in(table: &Table, number: Option<(i128, u32)>) -> Option<Timestamp>
     ensures is { result ≡ timestamp_in table.now number }
     ensures sized { IfSome result (λ s. (1 ≤ s.size) × (s.size ≤ 64)) }
@@ -82,12 +82,12 @@ fn rate_of(meta: &TraceMeta, timestamp: Option<Timestamp>) -> ClockRate
 {
     if let Some(
         Timestamp {
-            clock: Some(place),
+            clock: Some(index),
             ..
         },
     ) = timestamp
     {
-        if let Some(rate) = meta.clock(place) {
+        if let Some(rate) = meta.clock(index) {
             return rate;
         }
     }

@@ -3,7 +3,7 @@ use Rattle.std.proofs.Common.{◌≡◌, refl, [], ◌∷◌}
 use Rattle.std.specs.Prelude.{codes}
 use Rattle.trace_types.specs.ByteTexts.{byte_text}
 use Rattle.trace_types.specs.Padding.{name_in, padded}
-use Rattle.trace_types.specs.Paths.{place_of}
+use Rattle.trace_types.specs.Paths.{rank_of}
 use Rattle.trace_types.specs.declared.path.Path.TheVariants.{Cpu, Thread}
 use Rattle.trace_types.specs.declared.path.ThreadKey.TheVariants.{Idle, Tid}
 use Rattle.trace_types.specs.declared.path.CpuLeaf.TheVariants as cpu_leaf
@@ -18,5 +18,5 @@ pub names : (name_in (98 ∷ 97 ∷ 0 ∷ 99 ∷ []) ≡ 98 ∷ 97 ∷ []) × (p
 names = (refl, refl)
 
 -- where paths are listed: processors, then idle threads, then tids
-pub places : (place_of (Cpu 2 1 cpu_leaf.Irq) ≡ 2 ∷ 0 ∷ 1 ∷ 1 ∷ []) × (place_of (Thread 2 (Idle 1) thread_leaf.Cpu) ≡ 2 ∷ 1 ∷ 1 ∷ 2 ∷ []) × (place_of (Thread 2 (Tid 1) thread_leaf.Status) ≡ 2 ∷ 2 ∷ 1 ∷ 0 ∷ [])
-places = (refl, refl, refl)
+pub ranks : (rank_of (Cpu 2 1 cpu_leaf.Irq) ≡ 2 ∷ 0 ∷ 1 ∷ 1 ∷ []) × (rank_of (Thread 2 (Idle 1) thread_leaf.Cpu) ≡ 2 ∷ 1 ∷ 1 ∷ 2 ∷ []) × (rank_of (Thread 2 (Tid 1) thread_leaf.Status) ≡ 2 ∷ 2 ∷ 1 ∷ 0 ∷ [])
+ranks = (refl, refl, refl)

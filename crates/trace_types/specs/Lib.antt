@@ -6,3 +6,6 @@ pub mod Paths
 pub mod Same
 pub mod Order
 pub mod Fronts
+pub mod CallNames
+pub mod EventKinds
+pub mod Ranges

@@ -33,25 +33,25 @@ abbrev pub path_text : AttributePath → List ℕ
 path_text (Cpu host cpu leaf) = codes "h" ++ decimal host ++ codes "/Cpu/" ++ decimal cpu ++ codes "/" ++ cpu_leaf_text leaf
 path_text (Thread host thread leaf) = codes "h" ++ decimal host ++ codes "/Thread/" ++ thread_text thread ++ codes "/" ++ thread_leaf_text leaf
 
--- the place of a leaf among its kind
-abbrev pub cpu_leaf_place : CpuLeaf → ℕ
-cpu_leaf_place cpu_leaf.Thread = 0
-cpu_leaf_place cpu_leaf.Irq = 1
-cpu_leaf_place cpu_leaf.Softirq = 2
+-- the rank of a leaf among its kind
+abbrev pub cpu_leaf_rank : CpuLeaf → ℕ
+cpu_leaf_rank cpu_leaf.Thread = 0
+cpu_leaf_rank cpu_leaf.Irq = 1
+cpu_leaf_rank cpu_leaf.Softirq = 2
 
-abbrev pub thread_leaf_place : ThreadLeaf → ℕ
-thread_leaf_place thread_leaf.Status = 0
-thread_leaf_place thread_leaf.Name = 1
-thread_leaf_place thread_leaf.Cpu = 2
-thread_leaf_place thread_leaf.Prio = 3
-thread_leaf_place thread_leaf.Parent = 4
-thread_leaf_place thread_leaf.Call = 5
+abbrev pub thread_leaf_rank : ThreadLeaf → ℕ
+thread_leaf_rank thread_leaf.Status = 0
+thread_leaf_rank thread_leaf.Name = 1
+thread_leaf_rank thread_leaf.Cpu = 2
+thread_leaf_rank thread_leaf.Prio = 3
+thread_leaf_rank thread_leaf.Parent = 4
+thread_leaf_rank thread_leaf.Call = 5
 
 -- where a path is listed, compared from the left: by host, processors before idle threads before tids, by number, by leaf
-abbrev pub place_of : AttributePath → List ℕ
-place_of (Cpu host cpu leaf) = host ∷ 0 ∷ cpu ∷ cpu_leaf_place leaf ∷ []
-place_of (Thread host (Idle cpu) leaf) = host ∷ 1 ∷ cpu ∷ thread_leaf_place leaf ∷ []
-place_of (Thread host (Tid tid) leaf) = host ∷ 2 ∷ tid ∷ thread_leaf_place leaf ∷ []
+abbrev pub rank_of : AttributePath → List ℕ
+rank_of (Cpu host cpu leaf) = host ∷ 0 ∷ cpu ∷ cpu_leaf_rank leaf ∷ []
+rank_of (Thread host (Idle cpu) leaf) = host ∷ 1 ∷ cpu ∷ thread_leaf_rank leaf ∷ []
+rank_of (Thread host (Tid tid) leaf) = host ∷ 2 ∷ tid ∷ thread_leaf_rank leaf ∷ []
 
 -- the words of a path, which slashes join after an h
 abbrev pub path_words : AttributePath → List (List ℕ)

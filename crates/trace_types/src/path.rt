@@ -49,12 +49,12 @@ pub enum Path {
 
 impl Path {
     ghost use Rattle.std.specs.Prelude.{◌≡◌};
-    ghost use Rattle.trace_types.specs.Paths.{place_of};
+    ghost use Rattle.trace_types.specs.Paths.{rank_of};
 
     /// Where the path stands in a list of paths, compared from the left: its host; 0 for a
-    /// processor, 1 for an idle thread, 2 for another; the processor or the tid; the leaf's place.
-    pub fn place(&self) -> [u32; 4]
-        ensures { result ≡ place_of self.now }
+    /// processor, 1 for an idle thread, 2 for another; the processor or the tid; the leaf's rank.
+    pub fn rank(&self) -> [u32; 4]
+        ensures { result ≡ rank_of self.now }
     {
         match *self {
             Path::Cpu { host, cpu, leaf } => [host, 0, cpu, leaf as u32],

@@ -271,7 +271,7 @@ stream_declared all =
     >> paths_lead
     >> (λ k. declaring (with_stream (id_in (codes "id") all) (record { packet_context = k.scopes.packet_context; event_header = k.scopes.event_header; event_context = k.scopes.stream_context })) k)
 
--- the place of an event's name among the names, and the names with it
+-- the index of an event's name among the names, and the names with it
 abbrev pub name_in : List Entry → Text
 name_in all = unwrap_or (said name_said (codes "name") (attrs_in all)) []
 

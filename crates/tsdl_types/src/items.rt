@@ -33,7 +33,7 @@ pub fn declare_types(
     Ok(types)
 }
 
-// The item at this place is refused.
+// The item at this index is refused.
 fn refused(at: usize, fault: Fault) -> MetaError
     requires { at + 1 < 2 ^ 64 }
     ensures { IsRefused at fault result }
@@ -60,22 +60,22 @@ fn item_of(
     let block_context = &BlockContext::new(order, None, &nothing);
     match item {
         Item::Alias { ty, words } => {
-            let place = used_as(types, alloc, block_context, MAX_BRACES, Use::Alone, ty)?;
+            let index = used_as(types, alloc, block_context, MAX_BRACES, Use::Alone, ty)?;
             let name = Some(spaced(alloc, words.as_slice())?);
             new_name(types, NameKind::Alias, &name)?;
-            declare(types, alloc, NameKind::Alias, &name, place)
+            declare(types, alloc, NameKind::Alias, &name, index)
         }
         Item::Struct(tree) => {
-            let (place, is_known) = struct_type(types, alloc, block_context, MAX_BRACES, tree)?;
-            look(types, alloc, block_context, place, is_known)
+            let (index, is_known) = struct_type(types, alloc, block_context, MAX_BRACES, tree)?;
+            look(types, alloc, block_context, index, is_known)
         }
         Item::Variant(tree) => {
-            let (place, is_known) = variant_type(types, alloc, block_context, MAX_BRACES, tree)?;
-            look(types, alloc, block_context, place, is_known)
+            let (index, is_known) = variant_type(types, alloc, block_context, MAX_BRACES, tree)?;
+            look(types, alloc, block_context, index, is_known)
         }
         Item::Enum(tree) => {
-            let (place, is_known) = enum_type(types, alloc, block_context, tree)?;
-            look(types, alloc, block_context, place, is_known)
+            let (index, is_known) = enum_type(types, alloc, block_context, tree)?;
+            look(types, alloc, block_context, index, is_known)
         }
         Item::Block { kind, entries } => {
             block_of(types, alloc, order, *kind, entries.as_slice())
@@ -88,14 +88,14 @@ fn look(
     types: &mut TypeScope,
     alloc: Global,
     block_context: &BlockContext<'_>,
-    place: u32,
+    index: u32,
     is_known: bool,
 ) -> Result<(), Fault>
-    requires { place < length (state types.old).types }
-    ensures { Does (looked_at block_context.now is_known (tree_at (state types.old).types place) (state types.old).known) result (state types.new) }
+    requires { index < length (state types.old).types }
+    ensures { Does (looked_at block_context.now is_known (tree_at (state types.old).types index) (state types.old).known) result (state types.new) }
 {
     if is_known {
-        types.recheck(alloc, block_context, place)
+        types.recheck(alloc, block_context, index)
     } else {
         Ok(())
     }

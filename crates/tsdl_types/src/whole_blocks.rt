@@ -181,7 +181,7 @@ fn declared_by(
     ensures { Does (blocks.declared_by block.entry.order block.entry.kind block.entry.all.now stood path.now tree.now (blocks.scope_given block.entry.kind path.now) (state types.old).known) result (state types.new) }
 {
     let block_context = &entry_context(block, path);
-    let place = used_as(types, alloc, block_context, MAX_BRACES, Use::Alone, tree)?;
+    let index = used_as(types, alloc, block_context, MAX_BRACES, Use::Alone, tree)?;
     let again = is_again(block.kind, stood);
     match scope_given(block.kind, path) {
         None => {
@@ -189,9 +189,9 @@ fn declared_by(
             require(!breaks, MetaItemCause::BadAttribute)
         }
         Some(scope) => {
-            let holds = types.is_struct(place) && !again;
+            let holds = types.is_struct(index) && !again;
             require(holds, MetaItemCause::BadAttribute)?;
-            types.set_scope(scope, place);
+            types.set_scope(scope, index);
             Ok(())
         }
     }

@@ -1,4 +1,4 @@
--- Paths by the places where they lie, and by their words.
+-- Paths by the indices where they lie, and by their words.
 use Rattle.std.proofs.Common.{◌≡◌, ◌∙◌, Bool, true, false, not, ◌||◌, if◌then◌else◌, List, [], ◌∷◌, ◌++◌, map, refl, ap}
 use Rattle.std.specs.List.{list_any}
 

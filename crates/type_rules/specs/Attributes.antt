@@ -61,7 +61,7 @@ abbrev pub clock_words : List Text → Option (List Text)
 clock_words [] = None
 clock_words (w ∷ ws) = if is_text w (codes "clock") then some_words (before_last (codes "value") ws) else None
 
--- the place of the clock that a value names among those that were declared before
+-- the index of the clock that a value names among those that were declared before
 abbrev pub clock_said : List (Text × ClockRate) → AttrValue → Option ℕ
 clock_said clocks (value.Path words) = option_and_then (λ name. position (is_text (dotted name)) (keys_of clocks)) (clock_words words)
 clock_said clocks _ = None

@@ -23,12 +23,12 @@ pub fn enum_type(
 {
     match (&tree.labels, &tree.name) {
         (Some(labels), _) => {
-            let place = new_enum(types, alloc, block_context, tree, labels.as_slice())?;
-            Ok((place, false))
+            let index = new_enum(types, alloc, block_context, tree, labels.as_slice())?;
+            Ok((index, false))
         }
         (None, Some(name)) => {
-            let place = known_enum(types, alloc, block_context, name, &tree.base)?;
-            Ok((place, true))
+            let index = known_enum(types, alloc, block_context, name, &tree.base)?;
+            Ok((index, true))
         }
         (None, None) => Err(Fault::Breaks(MetaItemCause::BadAttribute)),
     }
@@ -49,9 +49,9 @@ fn new_enum(
     if !types.is_whole(base) {
         return Err(Fault::Breaks(MetaItemCause::BadAttribute));
     }
-    let place = types.add_enum(alloc, base, labels)?;
-    declare(types, alloc, NameKind::Enum, &tree.name, place)?;
-    Ok(place)
+    let index = types.add_enum(alloc, base, labels)?;
+    declare(types, alloc, NameKind::Enum, &tree.name, index)?;
+    Ok(index)
 }
 
 // The base of an enumeration that was declared before is an integer, too, if it is given.
@@ -68,11 +68,11 @@ fn known_enum(
         None => known_as(types, NameKind::Enum, name),
         Some(base) => {
             let base = base_type(types, alloc, block_context, base)?;
-            let place = known_as(types, NameKind::Enum, name)?;
+            let index = known_as(types, NameKind::Enum, name)?;
             if !types.is_whole(base) {
                 return Err(Fault::Breaks(MetaItemCause::BadAttribute));
             }
-            Ok(place)
+            Ok(index)
         }
     }
 }

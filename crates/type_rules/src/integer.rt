@@ -165,7 +165,7 @@ fn clock_said(
     value: &AttrValue,
 ) -> Result<Option<u32>, OutOfMemory>
     requires { length (keys clocks.now) < 2 ^ 32 }
-    ensures { IfOk result (λ place. place ≡ clock_said clocks.now.entries value.now) }
+    ensures { IfOk result (λ index. index ≡ clock_said clocks.now.entries value.now) }
 {
     let AttrValue::Path(words) = value else {
         return Ok(None);
@@ -173,7 +173,7 @@ fn clock_said(
     match clock_words(words.as_slice()) {
         Some(name) => {
             let name = dotted(alloc, name)?;
-            Ok(clock_place(clocks, &name))
+            Ok(clock_index(clocks, &name))
         }
         None => Ok(None),
     }
@@ -205,13 +205,13 @@ fn name_words(words: &[Text]) -> Option<&[Text]>
     }
 }
 
-/// The place of a clock's name.
-pub fn clock_place(clocks: &IndexMap<Text, ClockRate>, name: &Text) -> Option<u32>
+/// The index of a clock's name.
+pub fn clock_index(clocks: &IndexMap<Text, ClockRate>, name: &Text) -> Option<u32>
     requires { length (keys clocks.now) < 2 ^ 32 }
     ensures { result ≡ position (is_text name.now) (keys clocks.now) }
 {
     match clocks.get_index_of(name) {
-        Some(place) => Some(place as u32),
+        Some(index) => Some(index as u32),
         None => None,
     }
 }

@@ -17,15 +17,15 @@ pub fn lists(
     alloc: Global,
     block_context: &BlockContext<'_>,
     dims: &[Dim],
-    place: u32,
+    index: u32,
 ) -> Result<u32, Fault>
-    requires { place < length (state types.old).types }
-    ensures { Gives (typing.lists block_context.now dims.now (tree_at (state types.old).types place) (state types.old).known) result (state types.new) }
+    requires { index < length (state types.old).types }
+    ensures { Gives (typing.lists block_context.now dims.now (tree_at (state types.old).types index) (state types.old).known) result (state types.new) }
 {
     let [outer @ .., last] = dims else {
-        return Ok(place);
+        return Ok(index);
     };
-    let item = list_of(types, alloc, block_context, last, place)?;
+    let item = list_of(types, alloc, block_context, last, index)?;
     lists(types, alloc, block_context, outer, item)
 }
 
@@ -48,9 +48,9 @@ fn list_of(
         Dim::Fixed(count) if *count > MAX_ITEMS => Err(Fault::Breaks(MetaItemCause::BadAttribute)),
         Dim::Fixed(count) => types.add_array(*count, item),
         Dim::Path(words) => {
-            let place = types.add_sequence(alloc, words.as_slice(), item)?;
+            let index = types.add_sequence(alloc, words.as_slice(), item)?;
             types.check_path(alloc, block_context, PathUse::Length, words.as_slice())?;
-            Ok(place)
+            Ok(index)
         }
     }
 }

@@ -1,4 +1,4 @@
-//! The paths of the attributes that stand before a place.
+//! The paths of the attributes that stand before a given one.
 ghost use Rattle.std.specs.Prelude.{◌≡◌, [], not, IfOk, OnOk};
 ghost use Rattle.type_rules.specs.Attributes.{is_seen, noted};
 

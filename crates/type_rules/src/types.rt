@@ -32,14 +32,14 @@ pub fn used_as(
 ) -> Result<u32, Fault>
     ensures { Gives (typing.used_as (typing.fields_within depth block_context.now) block_context.now role tree.now (state types.old).known) result (state types.new) }
 {
-    let (place, is_known) = type_of(types, alloc, block_context, depth, tree)?;
-    if !types.may_be(role, place) {
+    let (index, is_known) = type_of(types, alloc, block_context, depth, tree)?;
+    if !types.may_be(role, index) {
         return Err(Fault::Breaks(MetaItemCause::BadAttribute));
     }
     if is_known {
-        types.recheck(alloc, block_context, place)?;
+        types.recheck(alloc, block_context, index)?;
     }
-    Ok(place)
+    Ok(index)
 }
 
 // A type, and whether it was declared before.
@@ -56,20 +56,20 @@ fn type_of(
 {
     match tree {
         TypeTree::Integer(attrs) => {
-            let place = integer_type(types, alloc, block_context, attrs.as_slice())?;
-            Ok((place, false))
+            let index = integer_type(types, alloc, block_context, attrs.as_slice())?;
+            Ok((index, false))
         }
         TypeTree::Float(_) => Err(Fault::Breaks(MetaItemCause::FloatType)),
         TypeTree::Str(attrs) => {
-            let place = string_type(types, alloc, attrs)?;
-            Ok((place, false))
+            let index = string_type(types, alloc, attrs)?;
+            Ok((index, false))
         }
         TypeTree::Struct(tree) => struct_type(types, alloc, block_context, depth, tree),
         TypeTree::Variant(tree) => variant_type(types, alloc, block_context, depth, tree),
         TypeTree::Enum(tree) => enum_type(types, alloc, block_context, tree),
         TypeTree::Words(words) => {
-            let place = alias(types, alloc, words.as_slice())?;
-            Ok((place, true))
+            let index = alias(types, alloc, words.as_slice())?;
+            Ok((index, true))
         }
     }
 }
@@ -88,12 +88,12 @@ pub fn struct_type(
 {
     match (&tree.body, &tree.name) {
         (Some(body), name) => {
-            let place = new_struct(types, alloc, block_context, depth, name, body)?;
-            Ok((place, false))
+            let index = new_struct(types, alloc, block_context, depth, name, body)?;
+            Ok((index, false))
         }
         (None, Some(name)) => {
-            let place = known_as(types, NameKind::Struct, name)?;
-            Ok((place, true))
+            let index = known_as(types, NameKind::Struct, name)?;
+            Ok((index, true))
         }
         (None, None) => Err(Fault::Breaks(MetaItemCause::BadAttribute)),
     }
@@ -115,9 +115,9 @@ fn new_struct(
     fields(types, alloc, block_context, depth, body.fields.as_slice())?;
     new_name(types, NameKind::Struct, name)?;
     let align = align_said(body.align)?;
-    let place = types.end_struct(alloc, align)?;
-    declare(types, alloc, NameKind::Struct, name, place)?;
-    Ok(place)
+    let index = types.end_struct(alloc, align)?;
+    declare(types, alloc, NameKind::Struct, name, index)?;
+    Ok(index)
 }
 
 fn align_said(align: Option<u64>) -> Result<u32, Fault>
@@ -145,13 +145,13 @@ pub fn variant_type(
 {
     match (&tree.body, &tree.name) {
         (Some(body), _) => {
-            let place = new_variant(types, alloc, block_context, depth, tree, body.as_slice())?;
-            Ok((place, false))
+            let index = new_variant(types, alloc, block_context, depth, tree, body.as_slice())?;
+            Ok((index, false))
         }
         (None, Some(name)) => {
-            let place = known_as(types, NameKind::Variant, name)?;
-            let place = retagged(types, alloc, &tree.tag, place)?;
-            Ok((place, true))
+            let index = known_as(types, NameKind::Variant, name)?;
+            let index = retagged(types, alloc, &tree.tag, index)?;
+            Ok((index, true))
         }
         (None, None) => Err(Fault::Breaks(MetaItemCause::BadAttribute)),
     }
@@ -172,9 +172,9 @@ fn new_variant(
     types.open(alloc, false)?;
     fields(types, alloc, block_context, depth, body)?;
     new_name(types, NameKind::Variant, &tree.name)?;
-    let place = types.end_variant(alloc)?;
-    declare(types, alloc, NameKind::Variant, &tree.name, place)?;
-    tagged(types, alloc, block_context, &tree.tag, place)
+    let index = types.end_variant(alloc)?;
+    declare(types, alloc, NameKind::Variant, &tree.name, index)?;
+    tagged(types, alloc, block_context, &tree.tag, index)
 }
 
 // A variant with the tag that stands with its fields.
@@ -183,17 +183,17 @@ fn tagged(
     alloc: Global,
     block_context: &BlockContext<'_>,
     tag: &Option<Items<Text>>,
-    place: u32,
+    index: u32,
 ) -> Result<u32, Fault>
-    requires { place < length (state types.old).types }
-    ensures { Gives (typing.tagged block_context.now tag.now (tree_at (state types.old).types place) (state types.old).known) result (state types.new) }
+    requires { index < length (state types.old).types }
+    ensures { Gives (typing.tagged block_context.now tag.now (tree_at (state types.old).types index) (state types.old).known) result (state types.new) }
 {
     let Some(words) = tag else {
-        return Ok(place);
+        return Ok(index);
     };
-    let place = types.add_tagged(alloc, words.as_slice(), place)?;
+    let index = types.add_tagged(alloc, words.as_slice(), index)?;
     types.check_path(alloc, block_context, PathUse::Tag, words.as_slice())?;
-    Ok(place)
+    Ok(index)
 }
 
 // A variant that was declared before, with the tag that stands where it is used.
@@ -201,14 +201,14 @@ fn retagged(
     types: &mut TypeScope,
     alloc: Global,
     tag: &Option<Items<Text>>,
-    place: u32,
+    index: u32,
 ) -> Result<u32, Fault>
-    requires { place < length (state types.old).types }
-    ensures { Gives (typing.retagged tag.now (tree_at (state types.old).types place) (state types.old).known) result (state types.new) }
+    requires { index < length (state types.old).types }
+    ensures { Gives (typing.retagged tag.now (tree_at (state types.old).types index) (state types.old).known) result (state types.new) }
 {
     match tag {
-        Some(words) => types.add_tagged(alloc, words.as_slice(), place),
-        None => Ok(place),
+        Some(words) => types.add_tagged(alloc, words.as_slice(), index),
+        None => Ok(index),
     }
 }
 
@@ -246,7 +246,7 @@ fn field(
 {
     let is_struct = matches!(tree.ty, TypeTree::Struct(_)) && tree.dims.is_empty();
     types.enter(alloc, &tree.name, is_struct)?;
-    let place = used_as(types, alloc, block_context, depth, Use::Field, &tree.ty)?;
-    let place = lists(types, alloc, block_context, tree.dims.as_slice(), place)?;
-    types.add_field(alloc, &tree.name, place)
+    let index = used_as(types, alloc, block_context, depth, Use::Field, &tree.ty)?;
+    let index = lists(types, alloc, block_context, tree.dims.as_slice(), index)?;
+    types.add_field(alloc, &tree.name, index)
 }

@@ -48,7 +48,7 @@ pub fn known_as(types: &TypeScope, kind: NameKind, name: &Text) -> Result<u32, F
     ensures { Gives (known_as kind name.now (state types.now).known) result (state types.now) }
 {
     match types.find(kind, name) {
-        Some(place) => Ok(place),
+        Some(index) => Ok(index),
         None => Err(Fault::Breaks(MetaItemCause::UnknownType)),
     }
 }
@@ -86,15 +86,15 @@ pub fn declare(
     alloc: Global,
     kind: NameKind,
     name: &Option<Text>,
-    place: u32,
+    index: u32,
 ) -> Result<(), Fault>
-    requires there { place < length (state types.old).types }
+    requires there { index < length (state types.old).types }
     requires free { is_free kind name.now (state types.old).known ≡ true }
-    ensures step { Does (declared kind name.now (tree_at (state types.old).types place) (state types.old).known) result (state types.new) }
+    ensures step { Does (declared kind name.now (tree_at (state types.old).types index) (state types.old).known) result (state types.new) }
     ensures types { OnOk result ((state types.new).types ≡ (state types.old).types) }
 {
     if let Some(name) = name {
-        types.declare(alloc, kind, name, place)?;
+        types.declare(alloc, kind, name, index)?;
     }
     Ok(())
 }

@@ -12,7 +12,7 @@ use Rattle.type_table.specs.declared.fault.Fault.{Fault}
 use Rattle.type_scope.specs.TypeScopes.{State, Gives, enum_of, found_or, pure, sized, ◌>>=◌}
 use Rattle.type_table.specs.Types.{Text, Label, Named}
 use Rattle.type_table.specs.Table.{Table, AreBelow, Keeps, LabelNamesIn, integer_in, labels_at, name_at, tree, tree_at, trees}
-use Rattle.type_scope.specs.View.{Kept, NamedIn, names_at, state}
+use Rattle.type_scope.specs.View.{TypeScopeModel, NamedIn, names_at, state}
 use Rattle.type_table.proofs.Tables.{trees_count}
 use Rattle.type_scope.proofs.Views.{all_append, below_rise, words_keep}
 
@@ -46,7 +46,7 @@ map_none : (t : Table) (o : Option ℕ) → option_map (tree t) o ≡ None → o
 map_none t None e = refl
 map_none t (Some p) e = absurd (cc)
 
--- a name that is free among the trees is free among the places
+-- a name that is free among the trees is free among the indices
 pub free_named : (test : Text → Bool) (t : Table) (es : List (Text × ℕ)) → lookup test (names_at t es) ≡ None → lookup test es ≡ None
 free_named test t es is = map_none t (lookup test es) (sym (lookup_named test t es) ∙ is)
 
@@ -59,7 +59,7 @@ named_kept t es new name p (Ok u) all there ok err = subst (AllByRecursion (Name
 named_kept t es new name p (Err e) all there ok err = subst (AllByRecursion (NamedIn t)) (sym err) all
 
 -- a type that has a tree is in the table
-pub type_there : (k : Kept) (n : ℕ) → n < length (state k).types → n < length k.table.types
+pub type_there : (k : TypeScopeModel) (n : ℕ) → n < length (state k).types → n < length k.table.types
 unfolding state
 type_there k n h = omega (arith, h, trees_count k.table.names k.table.types)
 

@@ -17,7 +17,7 @@ one_fails : (a : BlockContext) (t : Table) (f : FieldMeta) (fs : List FieldMeta)
 one_fails a t f fs k total (fault.Breaks cause) s is step = is ∙ along (λ r. and_then r (λ _. rechecked_all a (fields_at t.names (trees t) fs))) _ _ step
 one_fails a t f fs k total fault.OutOfMemory s is step = tt
 
--- the field at a place is the first of those that are left
+-- the field at an index is the first of those that are left
 pub left_fail : (a : BlockContext) (t u : Table) (fs : List FieldMeta) (i : ℕ) (d : FieldMeta) (k : TypeScope) (total : Typed (Unit {0} × TypeScope)) (broken : Fault) (s : State)
     → i < length fs → u ≡ t → total ≡ rechecked_all a (fields_at t.names (trees t) (drop i fs)) k
     → Does (rechecked_field a (name_at u.names (get_or fs i d).name) (tree u (get_or fs i d).ty) k) (Err broken) s → Does total (Err broken) s

@@ -4,7 +4,7 @@ use Rattle.std.specs.List.{AllByRecursion}
 use Rattle.std.proofs.lemmas.List.{reverse-append}
 use Rattle.type_scope.specs.declared.scope.Frame.{Frame as FrameKept}
 use Rattle.type_scope.specs.declared.scope.DeferredPath.{DeferredPath as DeferredKept}
-use Rattle.type_scope.specs.declared.scope.ScopePlaces.{ScopePlaces}
+use Rattle.type_scope.specs.declared.scope.ScopeIndices.{ScopeIndices}
 use Rattle.type_table.specs.declared.meta.FieldMeta.{FieldMeta}
 use Rattle.type_table.specs.Types.{Text, Ty}
 use Rattle.type_table.specs.Table.{Table, Keeps, name_at, tree, AreBelow, FieldsIn, FieldNamesIn}
@@ -12,9 +12,9 @@ use Rattle.type_scope.specs.TypeScopes.{Frame, DeferredPath, Scopes, TypeScope, 
 use Rattle.type_table.specs.declared.declared.EventId.{EventId}
 use Rattle.type_table.specs.declared.declared.EventParts.{EventParts}
 use Rattle.type_table.specs.declared.declared.StreamScopes.{StreamScopes}
-use Rattle.type_table.specs.TraceMetas.{DeclaredPlaces}
-use Rattle.type_scope.specs.View.{Kept, IsKept, FrameIn, DeferredIn, NamedIn, ScopesIn, names_at, read_at, frame_at, scopes_at, deferred_at, known_at, with_table, event_at, stream_at, declared_at}
-use Rattle.type_table.specs.TraceMetas.{IfHere, PlaceIn, EventIn, StreamIn, DeclaredIn}
+use Rattle.type_table.specs.TraceMetas.{DeclaredIndices}
+use Rattle.type_scope.specs.View.{TypeScopeModel, IsKept, FrameIn, DeferredIn, NamedIn, ScopesIn, names_at, read_at, frame_at, scopes_at, deferred_at, known_at, with_table, event_at, stream_at, declared_at}
+use Rattle.type_table.specs.TraceMetas.{IfHere, IndexIn, EventIn, StreamIn, DeclaredIn}
 
 along : {A B : Type 0} (f : A → B) (x y : A) → x ≡ y → f x ≡ f y
 along f x y h = ap f h
@@ -60,7 +60,7 @@ pub known_by : {a b c d : List (Text × Ty)} {a2 b2 c2 d2 : List (Text × Ty)} {
     → the_known a b c d f s l o ≡ the_known a2 b2 c2 d2 f2 s2 l2 o2
 known_by p q r t u v w x = λ i. the_known (p i) (q i) (r i) (t i) (u i) (v i) (w i) (x i)
 
--- ---- numbers and places
+-- ---- numbers and indices
 
 pub below_all : (n : ℕ) (xs : List ℕ) → AreBelow n xs → AllByRecursion (λ x. x < n) xs
 below_all n [] h = tt
@@ -103,29 +103,29 @@ module _ (old new : Table) (keeps : Keeps old new) where
   named_rises : (es : List (Text × ℕ)) → AllByRecursion (NamedIn old) es → AllByRecursion (NamedIn new) es
   named_rises es h = all_more (NamedIn old) (NamedIn new) (λ e in_old. omega (arith, in_old, keeps.more_types)) es h
 
-  place_rises : (o : Option ℕ) → IfHere (PlaceIn old) o → IfHere (PlaceIn new) o
-  place_rises o h = here_more (PlaceIn old) (PlaceIn new) (λ p in_old. omega (arith, in_old, keeps.more_types)) o h
+  index_rises : (o : Option ℕ) → IfHere (IndexIn old) o → IfHere (IndexIn new) o
+  index_rises o h = here_more (IndexIn old) (IndexIn new) (λ p in_old. omega (arith, in_old, keeps.more_types)) o h
 
-  place_keeps : (o : Option ℕ) → IfHere (PlaceIn old) o → option_map (tree new) o ≡ option_map (tree old) o
-  place_keeps o h = here_same (tree new) (tree old) (PlaceIn old) keeps.types o h
+  index_keeps : (o : Option ℕ) → IfHere (IndexIn old) o → option_map (tree new) o ≡ option_map (tree old) o
+  index_keeps o h = here_same (tree new) (tree old) (IndexIn old) keeps.types o h
 
-  scopes_keep : (s : ScopePlaces) → ScopesIn old s → scopes_at new s ≡ scopes_at old s
+  scopes_keep : (s : ScopeIndices) → ScopesIn old s → scopes_at new s ≡ scopes_at old s
   scopes_keep s h =
-      along (λ x. record { packet_header = x; packet_context = option_map (tree new) s.packet_context; event_header = option_map (tree new) s.event_header; stream_context = option_map (tree new) s.stream_context; event_context = option_map (tree new) s.event_context; event_fields = option_map (tree new) s.event_fields }) _ _ (place_keeps s.packet_header h.packet_header)
-      ∙ along (λ x. record { packet_header = option_map (tree old) s.packet_header; packet_context = x; event_header = option_map (tree new) s.event_header; stream_context = option_map (tree new) s.stream_context; event_context = option_map (tree new) s.event_context; event_fields = option_map (tree new) s.event_fields }) _ _ (place_keeps s.packet_context h.packet_context)
-      ∙ along (λ x. record { packet_header = option_map (tree old) s.packet_header; packet_context = option_map (tree old) s.packet_context; event_header = x; stream_context = option_map (tree new) s.stream_context; event_context = option_map (tree new) s.event_context; event_fields = option_map (tree new) s.event_fields }) _ _ (place_keeps s.event_header h.event_header)
-      ∙ along (λ x. record { packet_header = option_map (tree old) s.packet_header; packet_context = option_map (tree old) s.packet_context; event_header = option_map (tree old) s.event_header; stream_context = x; event_context = option_map (tree new) s.event_context; event_fields = option_map (tree new) s.event_fields }) _ _ (place_keeps s.stream_context h.stream_context)
-      ∙ along (λ x. record { packet_header = option_map (tree old) s.packet_header; packet_context = option_map (tree old) s.packet_context; event_header = option_map (tree old) s.event_header; stream_context = option_map (tree old) s.stream_context; event_context = x; event_fields = option_map (tree new) s.event_fields }) _ _ (place_keeps s.event_context h.event_context)
-      ∙ along (λ x. record { packet_header = option_map (tree old) s.packet_header; packet_context = option_map (tree old) s.packet_context; event_header = option_map (tree old) s.event_header; stream_context = option_map (tree old) s.stream_context; event_context = option_map (tree old) s.event_context; event_fields = x }) _ _ (place_keeps s.event_fields h.event_fields)
+      along (λ x. record { packet_header = x; packet_context = option_map (tree new) s.packet_context; event_header = option_map (tree new) s.event_header; stream_context = option_map (tree new) s.stream_context; event_context = option_map (tree new) s.event_context; event_fields = option_map (tree new) s.event_fields }) _ _ (index_keeps s.packet_header h.packet_header)
+      ∙ along (λ x. record { packet_header = option_map (tree old) s.packet_header; packet_context = x; event_header = option_map (tree new) s.event_header; stream_context = option_map (tree new) s.stream_context; event_context = option_map (tree new) s.event_context; event_fields = option_map (tree new) s.event_fields }) _ _ (index_keeps s.packet_context h.packet_context)
+      ∙ along (λ x. record { packet_header = option_map (tree old) s.packet_header; packet_context = option_map (tree old) s.packet_context; event_header = x; stream_context = option_map (tree new) s.stream_context; event_context = option_map (tree new) s.event_context; event_fields = option_map (tree new) s.event_fields }) _ _ (index_keeps s.event_header h.event_header)
+      ∙ along (λ x. record { packet_header = option_map (tree old) s.packet_header; packet_context = option_map (tree old) s.packet_context; event_header = option_map (tree old) s.event_header; stream_context = x; event_context = option_map (tree new) s.event_context; event_fields = option_map (tree new) s.event_fields }) _ _ (index_keeps s.stream_context h.stream_context)
+      ∙ along (λ x. record { packet_header = option_map (tree old) s.packet_header; packet_context = option_map (tree old) s.packet_context; event_header = option_map (tree old) s.event_header; stream_context = option_map (tree old) s.stream_context; event_context = x; event_fields = option_map (tree new) s.event_fields }) _ _ (index_keeps s.event_context h.event_context)
+      ∙ along (λ x. record { packet_header = option_map (tree old) s.packet_header; packet_context = option_map (tree old) s.packet_context; event_header = option_map (tree old) s.event_header; stream_context = option_map (tree old) s.stream_context; event_context = option_map (tree old) s.event_context; event_fields = x }) _ _ (index_keeps s.event_fields h.event_fields)
 
-  scopes_rise : (s : ScopePlaces) → ScopesIn old s → ScopesIn new s
+  scopes_rise : (s : ScopeIndices) → ScopesIn old s → ScopesIn new s
   scopes_rise s h = record {
-    packet_header = place_rises s.packet_header h.packet_header;
-    packet_context = place_rises s.packet_context h.packet_context;
-    event_header = place_rises s.event_header h.event_header;
-    stream_context = place_rises s.stream_context h.stream_context;
-    event_context = place_rises s.event_context h.event_context;
-    event_fields = place_rises s.event_fields h.event_fields;
+    packet_header = index_rises s.packet_header h.packet_header;
+    packet_context = index_rises s.packet_context h.packet_context;
+    event_header = index_rises s.event_header h.event_header;
+    stream_context = index_rises s.stream_context h.stream_context;
+    event_context = index_rises s.event_context h.event_context;
+    event_fields = index_rises s.event_fields h.event_fields;
   }
 
   later_keeps : (ls : List DeferredKept) → AllByRecursion (DeferredIn old) ls → map (deferred_at new) ls ≡ map (deferred_at old) ls
@@ -133,34 +133,34 @@ module _ (old new : Table) (keeps : Keeps old new) where
 
   stream_keeps : (s : ℕ × StreamScopes) → StreamIn old s → stream_at new s ≡ stream_at old s
   stream_keeps s h =
-      along (λ x. (s.0, record { packet_context = x; event_header = option_map (tree new) s.1.event_header; event_context = option_map (tree new) s.1.event_context })) _ _ (place_keeps s.1.packet_context h.0)
-      ∙ along (λ x. (s.0, record { packet_context = option_map (tree old) s.1.packet_context; event_header = x; event_context = option_map (tree new) s.1.event_context })) _ _ (place_keeps s.1.event_header h.1)
-      ∙ along (λ x. (s.0, record { packet_context = option_map (tree old) s.1.packet_context; event_header = option_map (tree old) s.1.event_header; event_context = x })) _ _ (place_keeps s.1.event_context h.2)
+      along (λ x. (s.0, record { packet_context = x; event_header = option_map (tree new) s.1.event_header; event_context = option_map (tree new) s.1.event_context })) _ _ (index_keeps s.1.packet_context h.0)
+      ∙ along (λ x. (s.0, record { packet_context = option_map (tree old) s.1.packet_context; event_header = x; event_context = option_map (tree new) s.1.event_context })) _ _ (index_keeps s.1.event_header h.1)
+      ∙ along (λ x. (s.0, record { packet_context = option_map (tree old) s.1.packet_context; event_header = option_map (tree old) s.1.event_header; event_context = x })) _ _ (index_keeps s.1.event_context h.2)
 
   event_keeps : (e : EventId × EventParts) → EventIn old e → event_at new e ≡ event_at old e
   event_keeps e h =
-      along (λ x. (e.0, record { name = e.1.name; context = x; fields = option_map (tree new) e.1.fields })) _ _ (place_keeps e.1.context h.0)
-      ∙ along (λ x. (e.0, record { name = e.1.name; context = option_map (tree old) e.1.context; fields = x })) _ _ (place_keeps e.1.fields h.1)
+      along (λ x. (e.0, record { name = e.1.name; context = x; fields = option_map (tree new) e.1.fields })) _ _ (index_keeps e.1.context h.0)
+      ∙ along (λ x. (e.0, record { name = e.1.name; context = option_map (tree old) e.1.context; fields = x })) _ _ (index_keeps e.1.fields h.1)
 
-  told_keeps : (declared : DeclaredPlaces) → DeclaredIn old declared → declared_at new declared ≡ declared_at old declared
+  told_keeps : (declared : DeclaredIndices) → DeclaredIn old declared → declared_at new declared ≡ declared_at old declared
   told_keeps declared h =
       along (λ x. record { is_trace_read = declared.is_trace_read; uuid = declared.uuid; streams = x; events = map (event_at new) declared.events; event_names = declared.event_names; clocks = declared.clocks; hostname = declared.hostname }) _ _ (map_same (stream_at new) (stream_at old) (StreamIn old) stream_keeps declared.streams h.streams)
       ∙ along (λ x. record { is_trace_read = declared.is_trace_read; uuid = declared.uuid; streams = map (stream_at old) declared.streams; events = x; event_names = declared.event_names; clocks = declared.clocks; hostname = declared.hostname }) _ _ (map_same (event_at new) (event_at old) (EventIn old) event_keeps declared.events h.events)
 
-  told_rises : (declared : DeclaredPlaces) → DeclaredIn old declared → DeclaredIn new declared
+  told_rises : (declared : DeclaredIndices) → DeclaredIn old declared → DeclaredIn new declared
   told_rises declared h = record {
-    streams = all_more (StreamIn old) (StreamIn new) (λ s in_old. (place_rises s.1.packet_context in_old.0, place_rises s.1.event_header in_old.1, place_rises s.1.event_context in_old.2)) declared.streams h.streams;
-    events = all_more (EventIn old) (EventIn new) (λ e in_old. (place_rises e.1.context in_old.0, place_rises e.1.fields in_old.1)) declared.events h.events;
+    streams = all_more (StreamIn old) (StreamIn new) (λ s in_old. (index_rises s.1.packet_context in_old.0, index_rises s.1.event_header in_old.1, index_rises s.1.event_context in_old.2)) declared.streams h.streams;
+    events = all_more (EventIn old) (EventIn new) (λ e in_old. (index_rises e.1.context in_old.0, index_rises e.1.fields in_old.1)) declared.events h.events;
   }
 
   -- what is known is the same
-  pub known_keeps : (k : Kept) → IsKept old k → known_at new k ≡ known_at old k
+  pub known_keeps : (k : TypeScopeModel) → IsKept old k → known_at new k ≡ known_at old k
   known_keeps k h =
       known_by (named_keeps k.aliases h.aliases) (named_keeps k.structs h.structs) (named_keeps k.variants h.variants) (named_keeps k.enums h.enums)
       (map_same (frame_at new) (frame_at old) (FrameIn old) frame_keeps (reverse k.frames) (all_reverse (FrameIn old) k.frames h.frames))
       (scopes_keep k.scopes h.scopes) (later_keeps k.deferred h.deferred) (told_keeps k.declared h.declared)
 
-  pub kept_rises : (k : Kept) → IsKept old k → IsKept new (with_table new k)
+  pub kept_rises : (k : TypeScopeModel) → IsKept old k → IsKept new (with_table new k)
   kept_rises k h = record {
     aliases = named_rises k.aliases h.aliases;
     structs = named_rises k.structs h.structs;

@@ -42,7 +42,7 @@ has_event id t = is_some (lookup (same_event id) t.events)
 abbrev pub has_clock : Text → Declared → Bool
 has_clock name t = is_some (lookup (is_text name) t.clocks)
 
--- an event with the place of its name among the names, which are more by it where it is new
+-- an event with the index of its name among the names, which are more by it where it is new
 abbrev pub with_event_named : Text → EventId → Option Ty → Option Ty → Declared → Declared
 with_event_named name id context fields t =
     with_event id (record { name = position_or_len (is_text name) t.event_names; context = context; fields = fields })

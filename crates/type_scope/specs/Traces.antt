@@ -2,7 +2,7 @@
 use Rattle.std.specs.Prelude.{Option, option_map}
 use Rattle.trace_types.specs.declared.byte_order.ByteOrderKind.{ByteOrderKind}
 use Rattle.type_table.specs.Table.{tree}
-use Rattle.type_table.specs.TraceMetas.{MetaParts}
+use Rattle.type_table.specs.TraceMetas.{TraceMetaModel}
 use Rattle.type_table.specs.Types.{Ty}
 use Rattle.type_scope.specs.TypeScopes.{TypeScope, Declared}
 use Rattle.type_scope.specs.View.{declared_at}
@@ -17,6 +17,6 @@ pub record Trace : Type 0 where
 abbrev pub trace_of : ByteOrderKind → TypeScope → Trace
 trace_of order k = record { order = order; packet_header = k.scopes.packet_header; declared = k.declared }
 
--- what places in a table stand for
-unfoldable pub trace : MetaParts → Trace
+-- what indices in a table stand for
+unfoldable pub trace : TraceMetaModel → Trace
 trace m = record { order = m.order; packet_header = option_map (tree m.table) m.packet_header; declared = declared_at m.table m.declared }

@@ -1,4 +1,4 @@
--- What a text has declared up to a place in it, and what is being read there.
+-- What a text has declared up to a point in it, and what is being read there.
 use Rattle.std.specs.Prelude.{◌≡◌, ℕ, ◌<◌, Bool, true, false, List, [], ◌∷◌, ◌++◌, length, max, Option, Some, None, if◌then◌else◌, not, is_some, Result, Ok, Err}
 use Rattle.std.specs.Map.{lookup}
 use Rattle.tsdl_parser.specs.Symbols.{is_text}
@@ -57,7 +57,7 @@ pub record DeferredPath : Type 0 where
   pub scope : ScopeName
   pub names : List Text
 
--- what blocks declared of a stream and of an event, with the types of their scopes; an event's name is a place among the names
+-- what blocks declared of a stream and of an event, with the types of their scopes; an event's name is an index among the names
 pub record Stream : Type 0 where
   pub packet_context : Option Ty
   pub event_header : Option Ty
@@ -164,13 +164,13 @@ found_or None cause = breaks cause
 
 -- ---- what a function ensures
 
--- a type's place, where the step gives its tree
+-- a type's index, where the step gives its tree
 abbrev pub Gives : Typed (Ty × TypeScope) → Result ℕ Fault → State → Type 0
-Gives step (Ok place) s = (step ≡ Good (tree_at s.types place, s.known)) × (place < length s.types)
+Gives step (Ok index) s = (step ≡ Good (tree_at s.types index, s.known)) × (index < length s.types)
 Gives step (Err (Breaks cause)) s = step ≡ Bad cause
 Gives step (Err OutOfMemory) s = Unit {0}
 
--- a type's place and something more
+-- a type's index and something more
 abbrev pub Gives_too : {A : Type 0} → Typed ((Ty × A) × TypeScope) → Result (ℕ × A) Fault → State → Type 0
 Gives_too step (Ok r) s = (step ≡ Good ((tree_at s.types r.0, r.1), s.known)) × (r.0 < length s.types)
 Gives_too step (Err (Breaks cause)) s = step ≡ Bad cause

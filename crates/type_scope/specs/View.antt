@@ -1,9 +1,9 @@
--- What the places and numbers that a text's types are kept by stand for.
+-- What the indices and numbers that a text's types are kept by stand for.
 use Rattle.std.specs.Prelude.{ℕ, ◌<◌, List, [], ◌∷◌, ◌++◌, length, Option, Some, None, option_map, map, reverse}
 use Rattle.std.specs.List.{AllByRecursion}
 use Rattle.type_scope.specs.declared.scope.Frame.{Frame as FrameKept}
 use Rattle.type_scope.specs.declared.scope.DeferredPath.{DeferredPath as DeferredKept}
-use Rattle.type_scope.specs.declared.scope.ScopePlaces.{ScopePlaces}
+use Rattle.type_scope.specs.declared.scope.ScopeIndices.{ScopeIndices}
 use Rattle.type_table.specs.declared.meta.FieldMeta.{FieldMeta}
 use Rattle.type_table.specs.declared.meta.ScopeName.{ScopeName}
 use Rattle.type_table.specs.declared.meta.ScopeName.TheVariants.{PacketHeader, PacketContext, EventHeader, StreamContext, EventContext, EventFields}
@@ -12,7 +12,7 @@ use Rattle.type_table.specs.Table.{Table, name_at, tree, trees, AreBelow, Fields
 use Rattle.type_table.specs.declared.declared.EventId.{EventId}
 use Rattle.type_table.specs.declared.declared.EventParts.{EventParts}
 use Rattle.type_table.specs.declared.declared.StreamScopes.{StreamScopes}
-use Rattle.type_table.specs.TraceMetas.{DeclaredPlaces, IfHere, PlaceIn, DeclaredIn}
+use Rattle.type_table.specs.TraceMetas.{DeclaredIndices, IfHere, IndexIn, DeclaredIn}
 use Rattle.type_scope.specs.TypeScopes.{Event, Frame, DeferredPath, Scopes, Stream, Declared, TypeScope, State}
 
 abbrev pub names_at : Table → List (Text × ℕ) → List (Text × Ty)
@@ -41,7 +41,7 @@ abbrev pub kept_outer : List FrameKept → List FrameKept
 kept_outer [] = []
 kept_outer (f ∷ fs) = fs
 
-abbrev pub scopes_at : Table → ScopePlaces → Scopes
+abbrev pub scopes_at : Table → ScopeIndices → Scopes
 scopes_at t s = record {
   packet_header = option_map (tree t) s.packet_header;
   packet_context = option_map (tree t) s.packet_context;
@@ -51,28 +51,28 @@ scopes_at t s = record {
   event_fields = option_map (tree t) s.event_fields;
 }
 
-abbrev pub place_of : ScopeName → ScopePlaces → Option ℕ
-place_of PacketHeader s = s.packet_header
-place_of PacketContext s = s.packet_context
-place_of EventHeader s = s.event_header
-place_of StreamContext s = s.stream_context
-place_of EventContext s = s.event_context
-place_of EventFields s = s.event_fields
+abbrev pub index_of : ScopeName → ScopeIndices → Option ℕ
+index_of PacketHeader s = s.packet_header
+index_of PacketContext s = s.packet_context
+index_of EventHeader s = s.event_header
+index_of StreamContext s = s.stream_context
+index_of EventContext s = s.event_context
+index_of EventFields s = s.event_fields
 
-abbrev pub places_set : ScopeName → ℕ → ScopePlaces → ScopePlaces
-places_set PacketHeader p s = record { packet_header = Some p; packet_context = s.packet_context; event_header = s.event_header; stream_context = s.stream_context; event_context = s.event_context; event_fields = s.event_fields }
-places_set PacketContext p s = record { packet_header = s.packet_header; packet_context = Some p; event_header = s.event_header; stream_context = s.stream_context; event_context = s.event_context; event_fields = s.event_fields }
-places_set EventHeader p s = record { packet_header = s.packet_header; packet_context = s.packet_context; event_header = Some p; stream_context = s.stream_context; event_context = s.event_context; event_fields = s.event_fields }
-places_set StreamContext p s = record { packet_header = s.packet_header; packet_context = s.packet_context; event_header = s.event_header; stream_context = Some p; event_context = s.event_context; event_fields = s.event_fields }
-places_set EventContext p s = record { packet_header = s.packet_header; packet_context = s.packet_context; event_header = s.event_header; stream_context = s.stream_context; event_context = Some p; event_fields = s.event_fields }
-places_set EventFields p s = record { packet_header = s.packet_header; packet_context = s.packet_context; event_header = s.event_header; stream_context = s.stream_context; event_context = s.event_context; event_fields = Some p }
+abbrev pub indices_set : ScopeName → ℕ → ScopeIndices → ScopeIndices
+indices_set PacketHeader p s = record { packet_header = Some p; packet_context = s.packet_context; event_header = s.event_header; stream_context = s.stream_context; event_context = s.event_context; event_fields = s.event_fields }
+indices_set PacketContext p s = record { packet_header = s.packet_header; packet_context = Some p; event_header = s.event_header; stream_context = s.stream_context; event_context = s.event_context; event_fields = s.event_fields }
+indices_set EventHeader p s = record { packet_header = s.packet_header; packet_context = s.packet_context; event_header = Some p; stream_context = s.stream_context; event_context = s.event_context; event_fields = s.event_fields }
+indices_set StreamContext p s = record { packet_header = s.packet_header; packet_context = s.packet_context; event_header = s.event_header; stream_context = Some p; event_context = s.event_context; event_fields = s.event_fields }
+indices_set EventContext p s = record { packet_header = s.packet_header; packet_context = s.packet_context; event_header = s.event_header; stream_context = s.stream_context; event_context = Some p; event_fields = s.event_fields }
+indices_set EventFields p s = record { packet_header = s.packet_header; packet_context = s.packet_context; event_header = s.event_header; stream_context = s.stream_context; event_context = s.event_context; event_fields = Some p }
 
 abbrev pub deferred_at : Table → DeferredKept → DeferredPath
 deferred_at t l = record { path_use = l.path_use; scope = l.scope; names = map (name_at t.names) l.words }
 
-abbrev pub places_begun : ScopePlaces → Option StreamScopes → ScopePlaces
-places_begun s None = record { packet_header = s.packet_header; packet_context = None; event_header = None; stream_context = None; event_context = None; event_fields = None }
-places_begun s (Some declared) = record { packet_header = s.packet_header; packet_context = declared.packet_context; event_header = declared.event_header; stream_context = declared.event_context; event_context = None; event_fields = None }
+abbrev pub indices_begun : ScopeIndices → Option StreamScopes → ScopeIndices
+indices_begun s None = record { packet_header = s.packet_header; packet_context = None; event_header = None; stream_context = None; event_context = None; event_fields = None }
+indices_begun s (Some declared) = record { packet_header = s.packet_header; packet_context = declared.packet_context; event_header = declared.event_header; stream_context = declared.event_context; event_context = None; event_fields = None }
 
 abbrev pub stream_at : Table → (ℕ × StreamScopes) → ℕ × Stream
 stream_at t s = (s.0, record { packet_context = option_map (tree t) s.1.packet_context; event_header = option_map (tree t) s.1.event_header; event_context = option_map (tree t) s.1.event_context })
@@ -80,25 +80,25 @@ stream_at t s = (s.0, record { packet_context = option_map (tree t) s.1.packet_c
 abbrev pub event_at : Table → (EventId × EventParts) → EventId × Event
 event_at t e = (e.0, record { name = e.1.name; context = option_map (tree t) e.1.context; fields = option_map (tree t) e.1.fields })
 
-abbrev pub declared_at : Table → DeclaredPlaces → Declared
+abbrev pub declared_at : Table → DeclaredIndices → Declared
 declared_at t declared = record { is_trace_read = declared.is_trace_read; uuid = declared.uuid; streams = map (stream_at t) declared.streams; events = map (event_at t) declared.events; event_names = declared.event_names; clocks = declared.clocks; hostname = declared.hostname }
 
--- what is kept: the table, and places and numbers in it
-pub record Kept : Type 0 where
+-- what is kept: the table, and indices and numbers in it
+pub record TypeScopeModel : Type 0 where
   pub table : Table
   pub aliases : List (Text × ℕ)
   pub structs : List (Text × ℕ)
   pub variants : List (Text × ℕ)
   pub enums : List (Text × ℕ)
   pub frames : List FrameKept
-  pub scopes : ScopePlaces
+  pub scopes : ScopeIndices
   pub deferred : List DeferredKept
-  pub declared : DeclaredPlaces
+  pub declared : DeclaredIndices
 
-abbrev pub with_table : Table → Kept → Kept
+abbrev pub with_table : Table → TypeScopeModel → TypeScopeModel
 with_table t k = record { table = t; aliases = k.aliases; structs = k.structs; variants = k.variants; enums = k.enums; frames = k.frames; scopes = k.scopes; deferred = k.deferred; declared = k.declared }
 
-abbrev pub known_at : Table → Kept → TypeScope
+abbrev pub known_at : Table → TypeScopeModel → TypeScope
 known_at t k = record {
   aliases = names_at t k.aliases;
   structs = names_at t k.structs;
@@ -111,7 +111,7 @@ known_at t k = record {
 }
 
 -- what it stands for
-unfoldable pub state : Kept → State
+unfoldable pub state : TypeScopeModel → State
 state k = record { types = trees k.table; known = known_at k.table k }
 
 -- ---- all that is kept is in the table
@@ -125,13 +125,13 @@ FrameIn t f = IfHere (λ n. n < length t.names) f.inner × FieldsIn (length t.ty
 abbrev pub FramesIn : Table → List FrameKept → Type 0
 FramesIn t fs = AllByRecursion (FrameIn t) fs
 
-pub record ScopesIn (t : Table) (s : ScopePlaces) : Type 0 where
-  pub packet_header : IfHere (PlaceIn t) s.packet_header
-  pub packet_context : IfHere (PlaceIn t) s.packet_context
-  pub event_header : IfHere (PlaceIn t) s.event_header
-  pub stream_context : IfHere (PlaceIn t) s.stream_context
-  pub event_context : IfHere (PlaceIn t) s.event_context
-  pub event_fields : IfHere (PlaceIn t) s.event_fields
+pub record ScopesIn (t : Table) (s : ScopeIndices) : Type 0 where
+  pub packet_header : IfHere (IndexIn t) s.packet_header
+  pub packet_context : IfHere (IndexIn t) s.packet_context
+  pub event_header : IfHere (IndexIn t) s.event_header
+  pub stream_context : IfHere (IndexIn t) s.stream_context
+  pub event_context : IfHere (IndexIn t) s.event_context
+  pub event_fields : IfHere (IndexIn t) s.event_fields
 
 abbrev pub DeferredIn : Table → DeferredKept → Type 0
 DeferredIn t l = AreBelow (length t.names) l.words
@@ -139,7 +139,7 @@ DeferredIn t l = AreBelow (length t.names) l.words
 abbrev pub AllDeferredIn : Table → List DeferredKept → Type 0
 AllDeferredIn t ls = AllByRecursion (DeferredIn t) ls
 
-pub record IsKept (t : Table) (k : Kept) : Type 0 where
+pub record IsKept (t : Table) (k : TypeScopeModel) : Type 0 where
   pub aliases : AllByRecursion (NamedIn t) k.aliases
   pub structs : AllByRecursion (NamedIn t) k.structs
   pub variants : AllByRecursion (NamedIn t) k.variants

@@ -1,4 +1,4 @@
-//! What is known at a place in a text of metadata: the types of names, the structures that are being read, scopes,
+//! What is known at a point in a text of metadata: the types of names, the structures that are being read, scopes,
 //! where the field paths of tags and lengths lead, and what blocks declared.
 #![tactic(auto)]
 

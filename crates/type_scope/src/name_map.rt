@@ -8,10 +8,10 @@ use std::alloc::Global;
 use std::marker::Model;
 use trace_types::{OutOfMemory, Text};
 
-/// Places of types by the types' names. Contracts see the pairs in the order in which they were added.
+/// Indices of types by the types' names. Contracts see the pairs in the order in which they were added.
 #[derive(Drop)]
 pub struct NameMap {
-    places: IndexMap<Text, u32>,
+    indices: IndexMap<Text, u32>,
 }
 
 impl Model for NameMap {
@@ -19,7 +19,7 @@ impl Model for NameMap {
 
     ghost Value = { List (List ℕ × ℕ) };
 
-    ghost view = { λ m. m.places.entries };
+    ghost view = { λ m. m.indices.entries };
 }
 
 impl NameMap {
@@ -28,25 +28,25 @@ impl NameMap {
         ensures { result ≡ [] }
     {
         NameMap {
-            places: IndexMap::new(alloc),
+            indices: IndexMap::new(alloc),
         }
     }
 
-    /// The place of a name's type.
+    /// The index of a name's type.
     pub fn find(&self, name: &Text) -> Option<u32>
         ensures { result ≡ lookup (is_text name.now) self.now }
     {
-        self.places.get(name).copied()
+        self.indices.get(name).copied()
     }
 
     /// Adds a name that isn't there.
-    pub fn add(&mut self, alloc: Global, name: &Text, place: u32) -> Result<(), OutOfMemory>
+    pub fn add(&mut self, alloc: Global, name: &Text, index: u32) -> Result<(), OutOfMemory>
         requires { lookup (is_text name.now) self.old ≡ None }
-        ensures ok { OnOk result (self.new ≡ self.old ++ (name.now, place) ∷ []) }
+        ensures ok { OnOk result (self.new ≡ self.old ++ (name.now, index) ∷ []) }
         ensures err { OnErr result (self.new ≡ self.old) }
     {
         let name = Text::from_bytes(alloc, name.as_bytes())?;
-        self.places.insert(name, place)?;
+        self.indices.insert(name, index)?;
         Ok(())
     }
 }

@@ -1,8 +1,8 @@
-//! What a text has declared up to a place in it, and what is being read there.
+//! What a text has declared up to a point in it, and what is being read there.
 ghost use Rattle.std.specs.Prelude.{◌≡◌, ◌<◌, ◌∷◌, [], None, Some, length, IfOk, OnOk, IfSome, IfNone};
 ghost use Rattle.type_scope.specs.TypeScopes.{Gives, empty_scope, sized, type_named, with_name};
 ghost use Rattle.type_table.specs.Table.{IsBased, IsSound, Keeps, NamesIn, RefersIn, name_at, shape, tree_at, trees};
-ghost use Rattle.type_scope.specs.View.{place_of, places_set, state, with_table};
+ghost use Rattle.type_scope.specs.View.{index_of, indices_set, state, with_table};
 
 mod ahead;
 mod built;
@@ -31,9 +31,9 @@ pub struct Frame {
     pub fields: Items<FieldMeta>,
 }
 
-/// The places of the scopes' types.
+/// The indices of the scopes' types.
 #[derive(Clone, Copy)]
-pub struct ScopePlaces {
+pub struct ScopeIndices {
     pub packet_header: Option<u32>,
     pub packet_context: Option<u32>,
     pub event_header: Option<u32>,
@@ -42,26 +42,26 @@ pub struct ScopePlaces {
     pub event_fields: Option<u32>,
 }
 
-impl ScopePlaces {
+impl ScopeIndices {
     /// With this type for a scope.
-    pub fn with(self, scope: ScopeName, place: u32) -> ScopePlaces
-        ensures { result ≡ places_set scope place self }
+    pub fn with(self, scope: ScopeName, index: u32) -> ScopeIndices
+        ensures { result ≡ indices_set scope index self }
     {
-        let mut places = self;
+        let mut indices = self;
         match scope {
-            ScopeName::PacketHeader => places.packet_header = Some(place),
-            ScopeName::PacketContext => places.packet_context = Some(place),
-            ScopeName::EventHeader => places.event_header = Some(place),
-            ScopeName::StreamContext => places.stream_context = Some(place),
-            ScopeName::EventContext => places.event_context = Some(place),
-            ScopeName::EventFields => places.event_fields = Some(place),
+            ScopeName::PacketHeader => indices.packet_header = Some(index),
+            ScopeName::PacketContext => indices.packet_context = Some(index),
+            ScopeName::EventHeader => indices.event_header = Some(index),
+            ScopeName::StreamContext => indices.stream_context = Some(index),
+            ScopeName::EventContext => indices.event_context = Some(index),
+            ScopeName::EventFields => indices.event_fields = Some(index),
         }
-        places
+        indices
     }
 
-    /// The place of a scope's type.
+    /// The index of a scope's type.
     pub fn of(self, scope: ScopeName) -> Option<u32>
-        ensures { result ≡ place_of scope self }
+        ensures { result ≡ index_of scope self }
     {
         match scope {
             ScopeName::PacketHeader => self.packet_header,
@@ -82,7 +82,7 @@ pub struct DeferredPath {
     pub words: Items<u32>,
 }
 
-/// What is known, by places in a table of types. Contracts see the types' trees.
+/// What is known, by indices in a table of types. Contracts see the types' trees.
 #[derive(Drop)]
 pub struct TypeScope {
     table: Table,
@@ -92,15 +92,15 @@ pub struct TypeScope {
     enums: NameMap,
     // the innermost last
     frames: Items<Frame>,
-    scopes: ScopePlaces,
+    scopes: ScopeIndices,
     deferred: Items<DeferredPath>,
     declared: Declared,
 }
 
 impl Model for TypeScope {
-    ghost use Rattle.type_scope.specs.View.{Kept, IsKept};
+    ghost use Rattle.type_scope.specs.View.{TypeScopeModel, IsKept};
 
-    ghost Value = { Kept };
+    ghost Value = { TypeScopeModel };
 
     ghost view = { λ k. record { table = k.table; aliases = k.aliases; structs = k.structs; variants = k.variants; enums = k.enums; frames = k.frames; scopes = k.scopes; deferred = k.deferred; declared = k.declared } };
 
@@ -120,7 +120,7 @@ impl TypeScope {
             variants: NameMap::new(alloc),
             enums: NameMap::new(alloc),
             frames: Items::new(alloc),
-            scopes: ScopePlaces {
+            scopes: ScopeIndices {
                 packet_header: None,
                 packet_context: None,
                 event_header: None,
@@ -156,7 +156,7 @@ impl TypeScope {
         self.table.intern(alloc, name)
     }
 
-    /// The place of the type of a name.
+    /// The index of the type of a name.
     #[tactic(auto, unfolding(crate::specs::View::state), using(crate::proofs::Named::found_named, crate::proofs::Named::none_named))]
     pub fn find(&self, kind: NameKind, name: &Text) -> Option<u32>
         ensures found { IfSome result (λ p. (type_named kind name.now (state self.now).known ≡ Some (tree_at (state self.now).types p)) × (p < length (state self.now).types)) }
@@ -177,18 +177,18 @@ impl TypeScope {
         alloc: Global,
         kind: NameKind,
         name: &Text,
-        place: u32,
+        index: u32,
     ) -> Result<(), OutOfMemory>
-        requires there { place < length (state self.old).types }
+        requires there { index < length (state self.old).types }
         requires free { type_named kind name.now (state self.old).known ≡ None }
-        ensures known { OnOk result ((state self.new).known ≡ with_name kind name.now (tree_at (state self.old).types place) (state self.old).known) }
+        ensures known { OnOk result ((state self.new).known ≡ with_name kind name.now (tree_at (state self.old).types index) (state self.old).known) }
         ensures types { OnOk result ((state self.new).types ≡ (state self.old).types) }
     {
         match kind {
-            NameKind::Alias => self.aliases.add(alloc, name, place),
-            NameKind::Struct => self.structs.add(alloc, name, place),
-            NameKind::Variant => self.variants.add(alloc, name, place),
-            NameKind::Enum => self.enums.add(alloc, name, place),
+            NameKind::Alias => self.aliases.add(alloc, name, index),
+            NameKind::Struct => self.structs.add(alloc, name, index),
+            NameKind::Variant => self.variants.add(alloc, name, index),
+            NameKind::Enum => self.enums.add(alloc, name, index),
         }
     }
 

@@ -147,7 +147,7 @@ widest_sum names types type_sizes fs table refers = (sums names types type_sizes
 pub parts_sum : (names : List Text) (types : List TypeMeta) (type_sizes : List TypeSize) (fs : List FieldMeta) → IsTable (of names types) type_sizes → FieldsIn (length types) fs → (sum_of type_sizes fs).nodes ≡ nodes_of_all (fields_at names (trees (of names types)) fs)
 parts_sum names types type_sizes fs table refers = omega (arith, (sums names types type_sizes fs table refers).nodes)
 
--- ---- a type at its place
+-- ---- a type at its index
 
 ranked_at : (n k : ℕ) (ts : List TypeMeta) (i : ℕ) (t : TypeMeta) → AreRanked n k ts → slice_get ts i ≡ Some t → NamesIn n t × RefersIn (k + i) t
 ranked_at n k [] i t r e = absurd (cc)
@@ -193,7 +193,7 @@ shape_keeps names few all (meta.Variant tag fields) same h = along (Variant (fie
 shape_keeps names few all (meta.Array count item) same h = along (Array count) _ _ (sym (same item h))
 shape_keeps names few all (meta.Sequence count item) same h = along (Sequence (field_path_or_here (field_path_of names count))) _ _ (sym (same item h))
 
--- the tree of a place, by the trees of all
+-- the tree of an index, by the trees of all
 pub tree_is : (names : List Text) (types : List TypeMeta) (i : ℕ) (t : TypeMeta) → AreRanked (length names) 0 types → slice_get types i ≡ Some t → tree (of names types) i ≡ shape names (trees (of names types)) t
 tree_is names types i t r e = by (split_at types i t e)
   where
@@ -207,14 +207,14 @@ tree_is names types i t r e = by (split_at types i t e)
         let same : (n : ℕ) → n < length few → tree_at (trees (of names types)) n ≡ tree_at few n = λ n h. along (λ ts. tree_at ts n) _ _ all_is ∙ trees_prefix names (grown names few t) after n (omega (arith, h, length-append few (shape names few t ∷ []))) ∙ get_or_append_left few (shape names few t ∷ []) Str n h in
         here ∙ shape_keeps names few (trees (of names types)) t same (subst (λ m. RefersIn m t) (omega (arith, count)) refers)
 
-pub place_refers : (names : List Text) (types : List TypeMeta) (i : ℕ) (t : TypeMeta) → AreRanked (length names) 0 types → i < length types → slice_get types i ≡ Some t → RefersIn (length types) t
-place_refers names types i t r h e = refers_up i (length types) t (omega (arith, h)) (subst (λ m. RefersIn m t) (omega arith) (ranked_at (length names) 0 types i t r e).1)
+pub index_refers : (names : List Text) (types : List TypeMeta) (i : ℕ) (t : TypeMeta) → AreRanked (length names) 0 types → i < length types → slice_get types i ≡ Some t → RefersIn (length types) t
+index_refers names types i t r h e = refers_up i (length types) t (omega (arith, h)) (subst (λ m. RefersIn m t) (omega arith) (ranked_at (length names) 0 types i t r e).1)
 
-pub place_names : (names : List Text) (types : List TypeMeta) (i : ℕ) (t : TypeMeta) → AreRanked (length names) 0 types → slice_get types i ≡ Some t → NamesIn (length names) t
-place_names names types i t r e = (ranked_at (length names) 0 types i t r e).0
+pub index_names : (names : List Text) (types : List TypeMeta) (i : ℕ) (t : TypeMeta) → AreRanked (length names) 0 types → slice_get types i ≡ Some t → NamesIn (length names) t
+index_names names types i t r e = (ranked_at (length names) 0 types i t r e).0
 
-pub place_ranked : (names : List Text) (types : List TypeMeta) (i : ℕ) (t : TypeMeta) → AreRanked (length names) 0 types → slice_get types i ≡ Some t → RefersIn i t
-place_ranked names types i t r e = subst (λ m. RefersIn m t) (omega arith) (ranked_at (length names) 0 types i t r e).1
+pub index_ranked : (names : List Text) (types : List TypeMeta) (i : ℕ) (t : TypeMeta) → AreRanked (length names) 0 types → slice_get types i ≡ Some t → RefersIn i t
+index_ranked names types i t r e = subst (λ m. RefersIn m t) (omega arith) (ranked_at (length names) 0 types i t r e).1
 
 fit_at : (type_sizes : List TypeSize) (n : ℕ) (d : TypeSize) → n < length type_sizes → AreFit type_sizes → are_fit (get_or type_sizes n d) ≡ true
 fit_at [] n d h fit = absurd (omega (arith, h))

@@ -1,4 +1,4 @@
--- The types of a text as a list in which each names others by smaller places, and the trees that they stand for.
+-- The types of a text as a list in which each names others by smaller indices, and the trees that they stand for.
 use Rattle.std.specs.Prelude.{◌≡◌, ℕ, ◌<◌, ◌≤◌, ◌+◌, ◌%◌, ◌^◌, ◌++◌, List, [], ◌∷◌, Option, Some, None, get_or, unwrap_or, length, map, false}
 use Rattle.trace_types.specs.declared.byte_order.ByteOrderKind.TheVariants.{Little}
 use Rattle.type_table.specs.declared.meta.TypeMeta.{TypeMeta}
@@ -146,7 +146,7 @@ pub record Grows (old new : Table) : Type 0 where
   pub names : new.names ≡ old.names ++ more_names
   pub types : new.types ≡ old.types ++ more_types
 
--- what the numbers and places of a table stand for, they stand for in a larger one
+-- what the numbers and indices of a table stand for, they stand for in a larger one
 pub record Keeps (old new : Table) : Type 0 where
   pub names : (n : ℕ) → n < length old.names → name_at new.names n ≡ name_at old.names n
   pub types : (n : ℕ) → n < length old.types → tree new n ≡ tree old n

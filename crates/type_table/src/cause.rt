@@ -1,7 +1,7 @@
 //! Why a metadata text declares no trace.
 use std::fmt;
 
-/// What is wrong with an item. Where two causes stand at one place, the first of this order counts.
+/// What is wrong with an item. Where two causes stand at one point, the first of this order counts.
 #[derive(Clone, Copy, Debug, PartialEq, Eq)]
 pub enum MetaItemCause {
     /// A floating point type.

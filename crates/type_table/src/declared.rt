@@ -21,7 +21,7 @@ pub struct ClockRate {
     pub offset_s: i128,
 }
 
-/// The places of the types of a stream's scopes.
+/// The indices of the types of a stream's scopes.
 #[derive(Clone, Copy, Debug)]
 pub struct StreamScopes {
     pub packet_context: Option<u32>,
@@ -36,7 +36,7 @@ pub struct EventId {
     pub id: u64,
 }
 
-/// The number of an event's name, and the places of the types of its scopes.
+/// The number of an event's name, and the indices of the types of its scopes.
 #[derive(Clone, Copy, Debug)]
 pub struct EventParts {
     pub name: u32,
@@ -57,9 +57,9 @@ pub struct Declared {
 }
 
 impl Model for Declared {
-    ghost use Rattle.type_table.specs.TraceMetas.{DeclaredPlaces, AreFew};
+    ghost use Rattle.type_table.specs.TraceMetas.{DeclaredIndices, AreFew};
 
-    ghost Value = { DeclaredPlaces };
+    ghost Value = { DeclaredIndices };
 
     ghost view = { λ t. record { is_trace_read = t.is_trace_read; uuid = t.uuid; streams = t.streams.entries; events = t.events.entries; event_names = t.event_names.keys; clocks = t.clocks.entries; hostname = t.hostname } };
 
@@ -97,12 +97,12 @@ impl Declared {
         &self.clocks
     }
 
-    /// How the clock at a place counts.
-    pub fn clock(&self, place: u32) -> Option<ClockRate>
-        ensures found { result ≡ option_map (λ clock. clock.1) (slice_get self.now.clocks place) }
+    /// How the clock at an index counts.
+    pub fn clock(&self, index: u32) -> Option<ClockRate>
+        ensures found { result ≡ option_map (λ clock. clock.1) (slice_get self.now.clocks index) }
         ensures rate { IfSome result IsRate }
     {
-        let (_, rate) = self.clocks.get_index(place as usize)?;
+        let (_, rate) = self.clocks.get_index(index as usize)?;
         Some(*rate)
     }
 
@@ -206,18 +206,18 @@ impl Declared {
         self.uuid
     }
 
-    /// The place of an event.
+    /// The index of an event.
     pub fn find_event(&self, event: EventId) -> Option<u32>
         ensures { result ≡ position (same_event event) (keys_of self.now.events) }
     {
-        self.events.get_index_of(&event).map(|place| place as u32)
+        self.events.get_index_of(&event).map(|index| index as u32)
     }
 
-    /// The event at a place.
-    pub fn event(&self, place: u32) -> Option<(EventId, EventParts)>
-        ensures { result ≡ slice_get self.now.events place }
+    /// The event at an index.
+    pub fn event(&self, index: u32) -> Option<(EventId, EventParts)>
+        ensures { result ≡ slice_get self.now.events index }
     {
-        let (id, parts) = self.events.get_index(place as usize)?;
+        let (id, parts) = self.events.get_index(index as usize)?;
         Some((*id, *parts))
     }
 
@@ -243,16 +243,16 @@ impl Declared {
         Some(self.event_names.get_index(number as usize)?.as_bytes())
     }
 
-    /// The place of an event's name among the names, which are more by it where it is new.
+    /// The index of an event's name among the names, which are more by it where it is new.
     pub fn event_name(&mut self, name: Text) -> Result<u32, OutOfMemory>
-        ensures named { IfOk result (λ place. place ≡ position_or_len (is_text name) self.old.event_names) }
+        ensures named { IfOk result (λ index. index ≡ position_or_len (is_text name) self.old.event_names) }
         ensures ok { OnOk result (self.new ≡ kept_name name self.old) }
         ensures err { OnErr result (self.new ≡ self.old) }
     {
         if !are_few(self.event_names.len() + 1) {
             return Err(OutOfMemory);
         }
-        let (place, _) = self.event_names.insert_full(name)?;
-        Ok(place as u32)
+        let (index, _) = self.event_names.insert_full(name)?;
+        Ok(index as u32)
     }
 }

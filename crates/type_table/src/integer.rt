@@ -1,7 +1,7 @@
 //! Integers.
 use trace_types::ByteOrderKind;
 
-/// An integer of `size` bits, from 1 to 64, aligned to `align` bits, a power of two. `clock` is a place among the
+/// An integer of `size` bits, from 1 to 64, aligned to `align` bits, a power of two. `clock` is an index among the
 /// clocks.
 #[derive(Clone, Copy, Debug, PartialEq, Eq)]
 pub struct Integer {

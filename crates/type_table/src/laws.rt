@@ -6,10 +6,10 @@ ghost use Rattle.type_table.specs.Types.{MAX_TYPE_DEPTH, MAX_NODES, depth, nodes
 use crate::table::Table;
 
 /// A value of a type of a table goes at most 32 types deep, and consists of at most 65,536.
-pub fn small_types(table: &Table, place: u32)
-    requires { place < length table.now.types }
-    ensures depth { depth (tree table.now place) ≤ MAX_TYPE_DEPTH }
-    ensures nodes { nodes (tree table.now place) ≤ MAX_NODES }
+pub fn small_types(table: &Table, index: u32)
+    requires { index < length table.now.types }
+    ensures depth { depth (tree table.now index) ≤ MAX_TYPE_DEPTH }
+    ensures nodes { nodes (tree table.now index) ≤ MAX_NODES }
 {
-    table.limits(place);
+    table.limits(index);
 }

@@ -1,13 +1,13 @@
-//! The types of a trace's metadata, by their places.
+//! The types of a trace's metadata, by their indices.
 use sqlite_items::Items;
 use trace_types::ByteOrderKind;
 
-/// A place in `types`, below that of the type that names it.
-type TypePlace = u32;
+/// An index in `types`, below that of the type that names it.
+type TypeIndex = u32;
 
 #[derive(Debug, Drop)]
 pub enum TypeMeta {
-    /// `size` bits, from 1 to 64, aligned to `align` bits, a power of two. `map` is a place among the clocks.
+    /// `size` bits, from 1 to 64, aligned to `align` bits, a power of two. `map` is an index among the clocks.
     Integer {
         size: u32,
         align: u32,
@@ -16,7 +16,7 @@ pub enum TypeMeta {
         map: Option<u32>,
     },
     Enum {
-        base: TypePlace,
+        base: TypeIndex,
         labels: Items<LabelMeta>,
     },
     /// Bytes up to a zero byte.
@@ -32,15 +32,15 @@ pub enum TypeMeta {
     },
     Array {
         length: u64,
-        item: TypePlace,
+        item: TypeIndex,
     },
     Sequence {
         length: Reference,
-        item: TypePlace,
+        item: TypeIndex,
     },
 }
 
-/// A label for the values from `low` to `high`. `name` is a place in `names`.
+/// A label for the values from `low` to `high`. `name` is an index in `names`.
 #[derive(Clone, Copy, Debug, PartialEq, Eq)]
 pub struct LabelMeta {
     pub name: u32,
@@ -48,15 +48,15 @@ pub struct LabelMeta {
     pub high: i128,
 }
 
-/// A field. `name` is a place in `names`.
+/// A field. `name` is an index in `names`.
 #[derive(Clone, Copy, Debug, PartialEq, Eq)]
 pub struct FieldMeta {
     pub name: u32,
-    pub ty: TypePlace,
+    pub ty: TypeIndex,
 }
 
 /// A field path to a field that was read before: from a scope's type where it begins with one, else from the
-/// structures around it. The words are places in `names`.
+/// structures around it. The words are indices in `names`.
 #[derive(Debug, Drop)]
 pub struct Reference {
     pub scope: Option<ScopeName>,

@@ -1,4 +1,4 @@
-//! The types of a text, each by its place, and the names that they use.
+//! The types of a text, each by its index, and the names that they use.
 ghost use Rattle.std.specs.Prelude.{◌≡◌, ◌<◌, ◌↔◌, ◌≤◌, ◌%◌, [], slice_get, Some, IsTrue, length, true, false, IfNone, IfOk, IfSome, OnOk};
 ghost use Rattle.type_table.specs.TypeSizes.{type_size_of};
 ghost use Rattle.type_table.specs.Faults.{OnBreak};
@@ -17,7 +17,7 @@ use std::alloc::Global;
 use std::marker::Model;
 use trace_types::{OutOfMemory, Text};
 
-/// Types by their places, and names by their numbers. Contracts see both lists.
+/// Types by their indices, and names by their numbers. Contracts see both lists.
 #[derive(Debug, Drop)]
 pub struct Table {
     names: IndexSet<Text>,
@@ -67,15 +67,15 @@ impl Table {
     }
 
     /// What is known of a type.
-    pub fn type_size(&self, place: u32) -> TypeSize
-        requires { place < length self.now.types }
-        ensures known { result ≡ type_size_of (tree self.now place) }
+    pub fn type_size(&self, index: u32) -> TypeSize
+        requires { index < length self.now.types }
+        ensures known { result ≡ type_size_of (tree self.now index) }
         ensures aligns { (1 ≤ result.align) × (65536 % result.align ≡ 0) }
     {
-        type_size_at(self.type_sizes.as_slice(), place)
+        type_size_at(self.type_sizes.as_slice(), index)
     }
 
-    /// Adds a type, whose place is the number of those before it. It is refused where it goes too deep or
+    /// Adds a type, whose index is the number of those before it. It is refused where it goes too deep or
     /// consists of too many types.
     #[tactic(auto, using(crate::proofs::Keeping::keeps_same))]
     pub fn push(&mut self, meta: TypeMeta) -> Result<u32, Fault>
@@ -85,7 +85,7 @@ impl Table {
         requires sound { IsSound meta }
         ensures keeps { Keeps self.old self.new }
         ensures names_stay { OnOk result (self.new.names ≡ self.old.names) }
-        ensures place { IfOk result (λ p. (p < length self.new.types) × (tree self.new p ≡ shape self.old.names (trees self.old) meta)) }
+        ensures index { IfOk result (λ p. (p < length self.new.types) × (tree self.new p ≡ shape self.old.names (trees self.old) meta)) }
         ensures fits { OnOk result (fits (shape self.old.names (trees self.old) meta) ≡ true) }
         ensures breaks { OnBreak (λ cause. (cause ≡ causes.BadAttribute) × (fits (shape self.old.names (trees self.old) meta) ≡ false)) result }
     {
@@ -95,13 +95,13 @@ impl Table {
         if !are_few(self.types.len()) {
             return Err(Fault::OutOfMemory);
         }
-        let place = self.types.len() as u32;
+        let index = self.types.len() as u32;
         self.type_sizes.push(type_sizes)?;
         if self.types.push(meta).is_err() {
             self.type_sizes.pop();
             return Err(Fault::OutOfMemory);
         }
-        Ok(place)
+        Ok(index)
     }
 
     /// The greatest alignment of a field. `None` comes where the fields consist of too many types.
@@ -114,17 +114,17 @@ impl Table {
         Some(sum_of(self.type_sizes.as_slice(), fields)?.align)
     }
 
-    /// The type of a place.
-    pub fn get(&self, place: u32) -> &TypeMeta
-        requires { place < length self.now.types }
-        ensures there { slice_get self.now.types place ≡ Some result.now }
-        ensures kind { tree self.now place ≡ shape self.now.names (trees self.now) result.now }
+    /// The type of an index.
+    pub fn get(&self, index: u32) -> &TypeMeta
+        requires { index < length self.now.types }
+        ensures there { slice_get self.now.types index ≡ Some result.now }
+        ensures kind { tree self.now index ≡ shape self.now.names (trees self.now) result.now }
         ensures refers { RefersIn (length self.now.types) result.now }
-        ensures ranked { RefersIn place result.now }
+        ensures ranked { RefersIn index result.now }
         ensures names { NamesIn (length self.now.names) result.now }
         ensures sound { IsSound result.now }
     {
-        &self.types.as_slice()[place as usize]
+        &self.types.as_slice()[index as usize]
     }
 
     /// The name of a number; the empty one where there is none.
@@ -159,10 +159,10 @@ impl Table {
     }
 
     /// The limits hold for a type. It does nothing.
-    pub fn limits(&self, place: u32)
-        requires { place < length self.now.types }
-        ensures depth { depth (tree self.now place) ≤ MAX_TYPE_DEPTH }
-        ensures nodes { nodes (tree self.now place) ≤ MAX_NODES }
+    pub fn limits(&self, index: u32)
+        requires { index < length self.now.types }
+        ensures depth { depth (tree self.now index) ≤ MAX_TYPE_DEPTH }
+        ensures nodes { nodes (tree self.now index) ≤ MAX_NODES }
     {
         let _ = &self.type_sizes;
     }

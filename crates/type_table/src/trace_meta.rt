@@ -2,7 +2,7 @@
 ghost use Rattle.std.specs.Prelude.{◌≡◌, ◌<◌, [], length, nat_eq, option_map, position, slice_get, unwrap_or, IfNone, IfSome, None, Some};
 ghost use Rattle.std.specs.Map.{keys_of, lookup};
 ghost use Rattle.type_table.specs.Table.{name_at};
-ghost use Rattle.type_table.specs.TraceMetas.{IfHere, IsRate, IsSoundMeta, PlaceIn, StreamIn, EventIn, DeclaredIn, same_event};
+ghost use Rattle.type_table.specs.TraceMetas.{IfHere, IsRate, IsSoundMeta, IndexIn, StreamIn, EventIn, DeclaredIn, same_event};
 
 use crate::declared::{ClockRate, Declared, EventId, EventParts, StreamScopes};
 use crate::table::Table;
@@ -10,7 +10,7 @@ use std::marker::Model;
 use trace_types::{ByteOrderKind, Text};
 
 /// What one trace declares: its byte order, streams, events, clocks and environment, and the types of their
-/// scopes, which are places in a table.
+/// scopes, which are indices in a table.
 #[derive(Debug, Drop)]
 pub struct TraceMeta {
     order: ByteOrderKind,
@@ -20,9 +20,9 @@ pub struct TraceMeta {
 }
 
 impl Model for TraceMeta {
-    ghost use Rattle.type_table.specs.TraceMetas.{MetaParts, AreInside};
+    ghost use Rattle.type_table.specs.TraceMetas.{TraceMetaModel, AreInside};
 
-    ghost Value = { MetaParts };
+    ghost Value = { TraceMetaModel };
 
     ghost view = { λ m. record { order = m.order; packet_header = m.packet_header; table = m.table; declared = m.declared } };
 
@@ -37,7 +37,7 @@ impl TraceMeta {
         table: Table,
         declared: Declared,
     ) -> TraceMeta
-        requires header { IfHere (PlaceIn table) packet_header }
+        requires header { IfHere (IndexIn table) packet_header }
         requires declared { DeclaredIn table declared }
         ensures { result ≡ record { order = order; packet_header = packet_header; table = table; declared = declared } }
     {
@@ -81,7 +81,7 @@ impl TraceMeta {
         }
     }
 
-    /// The types, by their places.
+    /// The types, by their indices.
     pub fn table(&self) -> &Table
         ensures { result.now ≡ self.now.table }
     {
@@ -90,8 +90,8 @@ impl TraceMeta {
 
     /// The type of packet headers.
     pub fn packet_header(&self) -> Option<u32>
-        ensures place { result ≡ self.now.packet_header }
-        ensures there { IfHere (PlaceIn self.now.table) result }
+        ensures index { result ≡ self.now.packet_header }
+        ensures there { IfHere (IndexIn self.now.table) result }
     {
         self.packet_header
     }
@@ -103,26 +103,26 @@ impl TraceMeta {
         self.declared.stream(id)
     }
 
-    /// The place of the event that a stream has by this id, in the order of declaration.
+    /// The index of the event that a stream has by this id, in the order of declaration.
     pub fn find_event(&self, stream: u64, id: u64) -> Option<u32>
         ensures { result ≡ position (same_event (record { stream = stream; id = id })) (keys_of self.now.declared.events) }
     {
         self.declared.find_event(EventId { stream, id })
     }
 
-    /// The event at a place.
-    pub fn event(&self, place: u32) -> Option<(EventId, EventParts)>
-        ensures { result ≡ slice_get self.now.declared.events place }
+    /// The event at an index.
+    pub fn event(&self, index: u32) -> Option<(EventId, EventParts)>
+        ensures { result ≡ slice_get self.now.declared.events index }
     {
-        self.declared.event(place)
+        self.declared.event(index)
     }
 
-    /// How the clock at a place counts.
-    pub fn clock(&self, place: u32) -> Option<ClockRate>
-        ensures found { result ≡ option_map (λ clock. clock.1) (slice_get self.now.declared.clocks place) }
+    /// How the clock at an index counts.
+    pub fn clock(&self, index: u32) -> Option<ClockRate>
+        ensures found { result ≡ option_map (λ clock. clock.1) (slice_get self.now.declared.clocks index) }
         ensures rate { IfSome result IsRate }
     {
-        self.declared.clock(place)
+        self.declared.clock(index)
     }
 
     /// The event's name of this number.

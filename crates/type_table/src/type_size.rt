@@ -88,12 +88,12 @@ pub fn meta_type_size(type_sizes: &[TypeSize], meta: &TypeMeta) -> Option<TypeSi
     }
 }
 
-/// What is known of the type at a place.
-pub fn type_size_at(type_sizes: &[TypeSize], place: u32) -> TypeSize
-    requires { place < length type_sizes.now }
-    ensures { result ≡ type_size_at type_sizes.now place }
+/// What is known of the type at an index.
+pub fn type_size_at(type_sizes: &[TypeSize], index: u32) -> TypeSize
+    requires { index < length type_sizes.now }
+    ensures { result ≡ type_size_at type_sizes.now index }
 {
-    type_sizes[place as usize]
+    type_sizes[index as usize]
 }
 
 fn leaf(align: u32, may_be_empty: bool) -> TypeSize

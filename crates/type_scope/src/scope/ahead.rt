@@ -96,7 +96,7 @@ impl TypeScope {
         ensures { result ≡ from_known path_use (map (name_at self.now.table.names) names.now) (type_named kind name.now (state self.now).known) }
     {
         match self.find(kind, name) {
-            Some(place) => leads_from(&self.table, path_use, place, names),
+            Some(index) => leads_from(&self.table, path_use, index, names),
             None => true,
         }
     }

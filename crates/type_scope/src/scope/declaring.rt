@@ -6,11 +6,11 @@ ghost use Rattle.type_scope.specs.TypeScopes.{scope_set, with_deferred, with_sco
 ghost use Rattle.type_scope.specs.References.{all_lead};
 ghost use Rattle.type_table.specs.Table.{tree, tree_at};
 ghost use Rattle.type_scope.specs.Declaring.{has_clock, has_event, scopes_begun, stream_if_any, stream_of, with_clock, with_event_named, with_hostname, with_stream, with_trace_read, with_uuid};
-ghost use Rattle.type_scope.specs.View.{ScopesIn, places_begun, scopes_at, state, stream_at};
-ghost use Rattle.type_table.specs.TraceMetas.{IfHere, IsRate, PlaceIn, StreamIn};
+ghost use Rattle.type_scope.specs.View.{ScopesIn, indices_begun, scopes_at, state, stream_at};
+ghost use Rattle.type_table.specs.TraceMetas.{IfHere, IsRate, IndexIn, StreamIn};
 
 use crate::scope::references::all_lead;
-use crate::scope::{ScopePlaces, TypeScope};
+use crate::scope::{ScopeIndices, TypeScope};
 use sqlite_items::Items;
 use std::alloc::Global;
 use trace_types::{OutOfMemory, Text};
@@ -37,8 +37,8 @@ impl TypeScope {
         context: Option<u32>,
         fields: Option<u32>,
     ) -> Result<(), OutOfMemory>
-        requires context { IfHere (PlaceIn self.old.table) context }
-        requires fields { IfHere (PlaceIn self.old.table) fields }
+        requires context { IfHere (IndexIn self.old.table) context }
+        requires fields { IfHere (IndexIn self.old.table) fields }
         requires new { has_event event (state self.old).known.declared ≡ false }
         ensures known { OnOk result ((state self.new).known ≡ with_declared (with_event_named name event (option_map (tree self.old.table) context) (option_map (tree self.old.table) fields) (state self.old).known.declared) (state self.old).known) }
         ensures table { OnOk result (self.new.table ≡ self.old.table) }
@@ -132,9 +132,9 @@ impl TypeScope {
         }
     }
 
-    /// The places of the scopes' types.
+    /// The indices of the scopes' types.
     #[tactic(auto, unfolding(crate::specs::View::state))]
-    pub fn scopes(&self) -> ScopePlaces
+    pub fn scopes(&self) -> ScopeIndices
         ensures types { scopes_at self.now.table result ≡ (state self.now).known.scopes }
         ensures there { ScopesIn self.now.table result }
     {
@@ -143,11 +143,11 @@ impl TypeScope {
 
     /// Gives a scope its type.
     #[tactic(auto, unfolding(crate::specs::View::state), using(crate::proofs::Declaring::scopes_set_in, crate::proofs::Declaring::scopes_set_at))]
-    pub fn set_scope(&mut self, scope: ScopeName, place: u32)
-        requires { place < length (state self.old).types }
-        ensures { (state self.new).known ≡ with_scopes (scope_set scope (tree_at (state self.old).types place) (state self.old).known.scopes) (state self.old).known }
+    pub fn set_scope(&mut self, scope: ScopeName, index: u32)
+        requires { index < length (state self.old).types }
+        ensures { (state self.new).known ≡ with_scopes (scope_set scope (tree_at (state self.old).types index) (state self.old).known.scopes) (state self.old).known }
     {
-        self.scopes = self.scopes.with(scope, place);
+        self.scopes = self.scopes.with(scope, index);
     }
 
     /// The scopes of the stream of an id.
@@ -177,11 +177,11 @@ impl TypeScope {
 }
 
 // The scopes of packets' headers and of a stream.
-fn begun(places: ScopePlaces, stream: Option<StreamScopes>) -> ScopePlaces
-    ensures { result ≡ places_begun places stream }
+fn begun(indices: ScopeIndices, stream: Option<StreamScopes>) -> ScopeIndices
+    ensures { result ≡ indices_begun indices stream }
 {
-    let mut begun = ScopePlaces {
-        packet_header: places.packet_header,
+    let mut begun = ScopeIndices {
+        packet_header: indices.packet_header,
         packet_context: None,
         event_header: None,
         stream_context: None,

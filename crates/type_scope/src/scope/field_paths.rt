@@ -71,7 +71,7 @@ impl TypeScope {
         ensures { IfOk result (λ said. said ≡ resolve_earlier block_context.now (state self.now).known path_use scope (map (name_at self.now.table.names) names.now) (scope_type scope (state self.now).known.scopes)) }
     {
         match (self.scopes.of(scope), block_context.tree_of(scope)) {
-            (Some(place), _) if leads_from(&self.table, path_use, place, names) => {
+            (Some(index), _) if leads_from(&self.table, path_use, index, names) => {
                 Ok(Resolution::Resolved)
             }
             (None, Some(tree)) => {
@@ -124,21 +124,21 @@ impl TypeScope {
     }
 
     /// Adds a variant of the fields of one, with a tag.
-    pub fn add_tagged(&mut self, alloc: Global, words: &[Text], place: u32) -> Result<u32, Fault>
-        requires { place < length (state self.old).types }
-        ensures { Gives (sized (Variant (field_path_said words.now) (fields_inside (tree_at (state self.old).types place))) (state self.old).known) result (state self.new) }
+    pub fn add_tagged(&mut self, alloc: Global, words: &[Text], index: u32) -> Result<u32, Fault>
+        requires { index < length (state self.old).types }
+        ensures { Gives (sized (Variant (field_path_said words.now) (fields_inside (tree_at (state self.old).types index))) (state self.old).known) result (state self.new) }
     {
         let tag = self.reference(alloc, words)?;
-        let fields = self.fields_inside(alloc, place)?;
+        let fields = self.fields_inside(alloc, index)?;
         self.push(TypeMeta::Variant { tag, fields })
     }
 
     // The fields of a variant.
-    fn fields_inside(&self, alloc: Global, place: u32) -> Result<Items<FieldMeta>, AllocError>
-        requires { place < length self.now.table.types }
-        ensures { IfOk result (λ fs. FieldsIn (length self.now.table.types) fs × FieldNamesIn (length self.now.table.names) fs × (fields_at self.now.table.names (trees self.now.table) fs ≡ fields_inside (tree_at (trees self.now.table) place))) }
+    fn fields_inside(&self, alloc: Global, index: u32) -> Result<Items<FieldMeta>, AllocError>
+        requires { index < length self.now.table.types }
+        ensures { IfOk result (λ fs. FieldsIn (length self.now.table.types) fs × FieldNamesIn (length self.now.table.names) fs × (fields_at self.now.table.names (trees self.now.table) fs ≡ fields_inside (tree_at (trees self.now.table) index))) }
     {
-        match self.table.get(place) {
+        match self.table.get(index) {
             TypeMeta::Variant { fields, .. } => Items::from_slice(alloc, fields.as_slice()),
             _ => Ok(Items::new(alloc)),
         }

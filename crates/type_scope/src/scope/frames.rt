@@ -43,12 +43,12 @@ impl TypeScope {
 
     /// Notes that a field of this type was read.
     #[tactic(auto, unfolding(crate::specs::View::state), using(crate::proofs::Frames::field_kept, crate::proofs::Frames::field_frames))]
-    pub fn add_field(&mut self, alloc: Global, name: &Text, place: u32) -> Result<(), Fault>
-        requires { place < length (state self.old).types }
-        ensures step { Does (with_field name.now (tree_at (state self.old).types place) (state self.old).known) result (state self.new) }
+    pub fn add_field(&mut self, alloc: Global, name: &Text, index: u32) -> Result<(), Fault>
+        requires { index < length (state self.old).types }
+        ensures step { Does (with_field name.now (tree_at (state self.old).types index) (state self.old).known) result (state self.new) }
     {
         let name = self.intern(alloc, name)?;
-        set_field(&mut self.frames, FieldMeta { name, ty: place })?;
+        set_field(&mut self.frames, FieldMeta { name, ty: index })?;
         Ok(())
     }
 

@@ -12,40 +12,40 @@ use type_table::TypeMeta;
 impl TypeScope {
     /// Whether a value may take no bit.
     #[tactic(auto, unfolding(crate::specs::View::state))]
-    pub fn may_be_empty(&self, place: u32) -> bool
-        requires { place < length (state self.now).types }
-        ensures { result ≡ nat_eq (least_bits (tree_at (state self.now).types place)) 0 }
+    pub fn may_be_empty(&self, index: u32) -> bool
+        requires { index < length (state self.now).types }
+        ensures { result ≡ nat_eq (least_bits (tree_at (state self.now).types index)) 0 }
     {
-        self.table.type_size(place).may_be_empty
+        self.table.type_size(index).may_be_empty
     }
 
     /// Whether it is an integer, and no enumeration.
     #[tactic(auto, unfolding(crate::specs::View::state))]
-    pub fn is_whole(&self, place: u32) -> bool
-        requires { place < length (state self.now).types }
-        ensures { result ≡ is_whole (tree_at (state self.now).types place) }
+    pub fn is_whole(&self, index: u32) -> bool
+        requires { index < length (state self.now).types }
+        ensures { result ≡ is_whole (tree_at (state self.now).types index) }
     {
-        matches!(self.table.get(place), TypeMeta::Integer { .. })
+        matches!(self.table.get(index), TypeMeta::Integer { .. })
     }
 
     /// Whether it is a structure.
     #[tactic(auto, unfolding(crate::specs::View::state))]
-    pub fn is_struct(&self, place: u32) -> bool
-        requires { place < length (state self.now).types }
-        ensures { result ≡ is_struct (tree_at (state self.now).types place) }
+    pub fn is_struct(&self, index: u32) -> bool
+        requires { index < length (state self.now).types }
+        ensures { result ≡ is_struct (tree_at (state self.now).types index) }
     {
-        matches!(self.table.get(place), TypeMeta::Struct { .. })
+        matches!(self.table.get(index), TypeMeta::Struct { .. })
     }
 
     /// Whether a type may be used so.
     #[tactic(auto, unfolding(crate::specs::View::state))]
-    pub fn may_be(&self, role: Use, place: u32) -> bool
-        requires { place < length (state self.now).types }
-        ensures { result ≡ may_be role (tree_at (state self.now).types place) }
+    pub fn may_be(&self, role: Use, index: u32) -> bool
+        requires { index < length (state self.now).types }
+        ensures { result ≡ may_be role (tree_at (state self.now).types index) }
     {
         match role {
             Use::Alone => true,
-            Use::Field => !is_loose(self.table.get(place)),
+            Use::Field => !is_loose(self.table.get(index)),
         }
     }
 }

@@ -20,13 +20,13 @@ impl TypeScope {
         &mut self,
         alloc: Global,
         block_context: &BlockContext<'_>,
-        place: u32,
+        index: u32,
     ) -> Result<(), Fault>
-        requires { place < length (state self.old).types }
-        ensures step { Does (rechecked block_context.now (tree_at (state self.old).types place) (state self.old).known) result (state self.new) }
+        requires { index < length (state self.old).types }
+        ensures step { Does (rechecked block_context.now (tree_at (state self.old).types index) (state self.old).known) result (state self.new) }
         ensures types { OnOk result ((state self.new).types ≡ (state self.old).types) }
     {
-        self.recheck_at(alloc, block_context, place)
+        self.recheck_at(alloc, block_context, index)
     }
 
     #[cycle(recheck)]
@@ -34,25 +34,25 @@ impl TypeScope {
         &mut self,
         alloc: Global,
         block_context: &BlockContext<'_>,
-        place: u32,
+        index: u32,
     ) -> Result<(), Fault>
-        requires { place < length self.old.table.types }
-        ensures step { Does (rechecked block_context.now (tree self.old.table place) (state self.old).known) result (state self.new) }
+        requires { index < length self.old.table.types }
+        ensures step { Does (rechecked block_context.now (tree self.old.table index) (state self.old).known) result (state self.new) }
         ensures table { OnOk result (self.new.table ≡ self.old.table) }
     {
-        if !self.table.type_size(place).has_paths {
+        if !self.table.type_size(index).has_paths {
             return Ok(());
         }
-        match self.table.get(place) {
+        match self.table.get(index) {
             TypeMeta::Integer { .. } | TypeMeta::Enum { .. } | TypeMeta::Str => Ok(()),
             TypeMeta::Struct { fields, .. } => {
                 let fields = Items::from_slice(alloc, fields.as_slice())?;
-                self.recheck_inside(alloc, block_context, true, place, fields)
+                self.recheck_inside(alloc, block_context, true, index, fields)
             }
             TypeMeta::Variant { tag, fields } => {
                 let fields = Items::from_slice(alloc, fields.as_slice())?;
                 let tag = copied(alloc, tag)?;
-                self.recheck_inside(alloc, block_context, false, place, fields)?;
+                self.recheck_inside(alloc, block_context, false, index, fields)?;
                 self.pass_tag(alloc, block_context, tag)
             }
             TypeMeta::Array { item, .. } => {

@@ -7,15 +7,15 @@ ghost use Rattle.type_scope.specs.View.{FrameIn, FramesIn, ScopesIn, frame_at, r
 ghost use Rattle.type_table.specs.TraceMetas.{IfHere};
 
 use crate::field_path::{PathUse, Resolution};
-use crate::scope::{DeferredPath, Frame, ScopePlaces};
+use crate::scope::{DeferredPath, Frame, ScopeIndices};
 use type_table::{FieldMeta, ScopeName, Table, TypeMeta, is_same_name};
 
 // Whether a tag or a length may be of this type.
-fn suits(table: &Table, path_use: PathUse, place: u32) -> bool
-    requires { place < length table.now.types }
-    ensures { result ≡ suits path_use (tree table.now place) }
+fn suits(table: &Table, path_use: PathUse, index: u32) -> bool
+    requires { index < length table.now.types }
+    ensures { result ≡ suits path_use (tree table.now index) }
 {
-    match (path_use, table.get(place)) {
+    match (path_use, table.get(index)) {
         (PathUse::Tag, TypeMeta::Enum { .. }) => true,
         (PathUse::Length, TypeMeta::Integer { signed, .. }) => !*signed,
         _ => false,
@@ -28,7 +28,7 @@ fn nearest(table: &Table, name: u32, fields: &[FieldMeta]) -> Option<u32>
     requires types { FieldsIn (length table.now.types) fields.now }
     requires names { FieldNamesIn (length table.now.names) fields.now }
     ensures found { option_map (tree table.now) result ≡ nearest (name_at table.now.names name) (read_at table.now fields.now) }
-    ensures there { IfSome result (λ place. place < length table.now.types) }
+    ensures there { IfSome result (λ index. index < length table.now.types) }
 {
     let wanted = table.name(name);
     for behind in 0..fields.len() {
@@ -42,26 +42,26 @@ fn nearest(table: &Table, name: u32, fields: &[FieldMeta]) -> Option<u32>
 
 // The field of this name of a structure.
 #[tactic(auto, using(crate::proofs::Nearest::nearest_fields))]
-fn member(table: &Table, name: u32, place: Option<u32>) -> Option<u32>
+fn member(table: &Table, name: u32, index: Option<u32>) -> Option<u32>
     requires name { name < length table.now.names }
-    requires place { IfSome place (λ p. p < length table.now.types) }
-    ensures found { option_map (tree table.now) result ≡ member (name_at table.now.names name) (option_map (tree table.now) place) }
+    requires index { IfSome index (λ p. p < length table.now.types) }
+    ensures found { option_map (tree table.now) result ≡ member (name_at table.now.names name) (option_map (tree table.now) index) }
     ensures there { IfSome result (λ p. p < length table.now.types) }
 {
-    let TypeMeta::Struct { fields, .. } = table.get(place?) else {
+    let TypeMeta::Struct { fields, .. } = table.get(index?) else {
         return None;
     };
     nearest(table, name, fields.as_slice())
 }
 
 // The type after further names.
-fn follow(table: &Table, place: Option<u32>, names: &[u32]) -> Option<u32>
+fn follow(table: &Table, index: Option<u32>, names: &[u32]) -> Option<u32>
     requires names { AreBelow (length table.now.names) names.now }
-    requires place { IfSome place (λ p. p < length table.now.types) }
-    ensures found { option_map (tree table.now) result ≡ follow (option_map (tree table.now) place) (map (name_at table.now.names) names.now) }
+    requires index { IfSome index (λ p. p < length table.now.types) }
+    ensures found { option_map (tree table.now) result ≡ follow (option_map (tree table.now) index) (map (name_at table.now.names) names.now) }
     ensures there { IfSome result (λ p. p < length table.now.types) }
 {
-    let mut at = place;
+    let mut at = index;
     for name in names {
         at = member(table, *name, at);
     }
@@ -80,7 +80,7 @@ fn from_inside(table: &Table, frames: &[Frame], name: u32, names: &[u32]) -> Opt
         return None;
     };
     match in_frame(table, inner, name) {
-        Some(place) => follow(table, Some(place), names),
+        Some(index) => follow(table, Some(index), names),
         None => from_inside(table, outer, name, names),
     }
 }
@@ -117,8 +117,8 @@ fn from_outside(table: &Table, frames: &[Frame], names: &[u32]) -> Option<u32>
     } else if is_inner(table, *name, frame.inner) {
         from_outside(table, inner, rest)
     } else {
-        let place = nearest(table, *name, frame.fields.as_slice());
-        follow(table, place, rest)
+        let index = nearest(table, *name, frame.fields.as_slice());
+        follow(table, index, rest)
     }
 }
 
@@ -135,12 +135,12 @@ fn is_inner(table: &Table, name: u32, inner: Option<u32>) -> bool
 }
 
 // Whether a field path leads to a type that it may lead to.
-fn verdict(table: &Table, path_use: PathUse, place: Option<u32>) -> Resolution
-    requires { IfSome place (λ p. p < length table.now.types) }
-    ensures { result ≡ verdict (suits_if_any path_use (option_map (tree table.now) place)) }
+fn verdict(table: &Table, path_use: PathUse, index: Option<u32>) -> Resolution
+    requires { IfSome index (λ p. p < length table.now.types) }
+    ensures { result ≡ verdict (suits_if_any path_use (option_map (tree table.now) index)) }
 {
-    match place {
-        Some(place) if suits(table, path_use, place) => Resolution::Resolved,
+    match index {
+        Some(index) if suits(table, path_use, index) => Resolution::Resolved,
         _ => Resolution::Invalid,
     }
 }
@@ -173,18 +173,18 @@ pub fn resolve_reading(
 }
 
 /// Whether a field path from a type that is there leads to what it may lead to.
-pub fn leads_from(table: &Table, path_use: PathUse, place: u32, names: &[u32]) -> bool
-    requires place { place < length table.now.types }
+pub fn leads_from(table: &Table, path_use: PathUse, index: u32, names: &[u32]) -> bool
+    requires index { index < length table.now.types }
     requires names { AreBelow (length table.now.names) names.now }
-    ensures { result ≡ suits_if_any path_use (follow (Some (tree table.now place)) (map (name_at table.now.names) names.now)) }
+    ensures { result ≡ suits_if_any path_use (follow (Some (tree table.now index)) (map (name_at table.now.names) names.now)) }
 {
-    match follow(table, Some(place), names) {
-        Some(place) => suits(table, path_use, place),
+    match follow(table, Some(index), names) {
+        Some(index) => suits(table, path_use, index),
         None => false,
     }
 }
 
-/// The place of a scope in the order in which they are read.
+/// The index of a scope in the order in which they are read.
 pub fn rank(scope: ScopeName) -> u8
     ensures { result ≡ rank scope }
 {
@@ -199,7 +199,7 @@ pub fn rank(scope: ScopeName) -> u8
 }
 
 /// Whether each field path leads to what it may lead to, where these scopes can be read.
-pub fn all_lead(table: &Table, scopes: ScopePlaces, deferred: &[DeferredPath]) -> bool
+pub fn all_lead(table: &Table, scopes: ScopeIndices, deferred: &[DeferredPath]) -> bool
     requires scopes { ScopesIn table.now scopes }
     requires deferred { AllDeferredIn table.now deferred.now }
     ensures { result ≡ all_lead (scopes_at table.now scopes) (map (deferred_at table.now) deferred.now) }
@@ -212,7 +212,7 @@ pub fn all_lead(table: &Table, scopes: ScopePlaces, deferred: &[DeferredPath]) -
     true
 }
 
-fn leads(table: &Table, scopes: ScopePlaces, field_path: &DeferredPath) -> bool
+fn leads(table: &Table, scopes: ScopeIndices, field_path: &DeferredPath) -> bool
     requires scopes { ScopesIn table.now scopes }
     requires field_path { DeferredIn table.now field_path.now }
     ensures { result ≡ leads (scopes_at table.now scopes) (deferred_at table.now field_path.now) }
@@ -222,7 +222,7 @@ fn leads(table: &Table, scopes: ScopePlaces, field_path: &DeferredPath) -> bool
         scopes.of(field_path.scope),
         field_path.words.as_slice(),
     ) {
-        Some(place) => suits(table, field_path.path_use, place),
+        Some(index) => suits(table, field_path.path_use, index),
         None => false,
     }
 }

@@ -7,8 +7,8 @@ use Rattle.ctf_fields.proofs.read.+read.Goals as goal
 pub add_each-loop-index-preserved : goal.add_each-loop-index-preserved
 add_each-loop-index-preserved t c =
     let open_structs : reverse c.add_item.new.scratch.open_structs ≡ reverse c.args.scratch.now.open_structs = search rules in
-    let got : read_item (read c.args.depth c.args.source.now) c.args.item (reverse c.loop-index.scratch.open_structs) c.loop-index.items c.loop-index.place ≡ Got c.add_item.new.items c.in_ok-place.place = search rules in
-    let step = one_item (read c.args.depth c.args.source.now) c.args.item (reverse c.loop-index.scratch.open_structs) (reverse c.add_item.new.scratch.open_structs) c.args.count c.loop-index._index c.loop-index.items c.add_item.new.items c.loop-index.place c.in_ok-place.place c.loop-index-test.true (search rules) got in
+    let got : read_item (read c.args.depth c.args.source.now) c.args.item (reverse c.loop-index.scratch.open_structs) c.loop-index.items c.loop-index.bit ≡ Got c.add_item.new.items c.in_ok-bit.bit = search rules in
+    let step = one_item (read c.args.depth c.args.source.now) c.args.item (reverse c.loop-index.scratch.open_structs) (reverse c.add_item.new.scratch.open_structs) c.args.count c.loop-index._index c.loop-index.items c.add_item.new.items c.loop-index.bit c.in_ok-bit.bit c.loop-index-test.true (search rules) got in
     (c.loop-index.invariant.0 ∙ step, search rules, search rules, open_structs)
 
 pub read-returns-clause-gives : goal.read-returns-clause-gives

@@ -39,11 +39,11 @@ abbrev pub decreases-read_by : goal.decreases-read_by
 decreases-read_by l = 8 * l.depth + 6
 
 abbrev pub invariant-read_members-loop-field : goal.invariant-read_members-loop-field
-invariant-read_members-loop-field l = (read_members (read l.fn.depth l.fn.source) l.fields (l.fn.inner ∷ reverse l.fn.scratch.open_structs) l.fn.at ≡ read_members (read l.fn.depth l.fn.source) (drop l.field-index l.fields) (l.inner ∷ reverse l.scratch.open_structs) l.place)
-    × (l.fn.at ≤ l.place) × (l.place ≤ 2 ^ 63)
+invariant-read_members-loop-field l = (read_members (read l.fn.depth l.fn.source) l.fields (l.fn.inner ∷ reverse l.fn.scratch.open_structs) l.fn.at ≡ read_members (read l.fn.depth l.fn.source) (drop l.field-index l.fields) (l.inner ∷ reverse l.scratch.open_structs) l.bit)
+    × (l.fn.at ≤ l.bit) × (l.bit ≤ 2 ^ 63)
     × (reverse l.scratch.open_structs ≡ reverse l.fn.scratch.open_structs)
 
 abbrev pub invariant-add_each-loop-index : goal.invariant-add_each-loop-index
-invariant-add_each-loop-index l = (read_items (read l.fn.depth l.fn.source) l.item (reverse l.fn.scratch.open_structs) l.count l.fn.items l.fn.at ≡ read_items (read l.fn.depth l.fn.source) l.item (reverse l.scratch.open_structs) (l.count - l._index) l.items l.place)
-    × (l.fn.at ≤ l.place) × (l.place ≤ 2 ^ 63)
+invariant-add_each-loop-index l = (read_items (read l.fn.depth l.fn.source) l.item (reverse l.fn.scratch.open_structs) l.count l.fn.items l.fn.at ≡ read_items (read l.fn.depth l.fn.source) l.item (reverse l.scratch.open_structs) (l.count - l._index) l.items l.bit)
+    × (l.fn.at ≤ l.bit) × (l.bit ≤ 2 ^ 63)
     × (reverse l.scratch.open_structs ≡ reverse l.fn.scratch.open_structs)

@@ -1,6 +1,6 @@
 use Rattle.std.proofs.Common.{◌≡◌, ◌-◌}
 use Rattle.packet_decoder.specs.Events.{as_packet, decoded}
-use Rattle.packet_decoder.specs.Unread.{events_left}
+use Rattle.packet_decoder.specs.EventReaders.{events_left}
 use Rattle.packet_decoder.proofs.Left.{behind}
 use Rattle.packet_decoder.proofs.decoding.all_events.Given as goal
 

@@ -1,7 +1,7 @@
 use Rattle.std.proofs.Common.{◌≡◌, ◌∙◌, ◌<◌, ◌≤◌, ◌-◌, subst, sym, ap, Ok, Err, [], ◌+◌}
 use Rattle.std.proofs.lemmas.Result.{err_from_is_err_and}
 use Rattle.packet_decoder.specs.Events.{cleared}
-use Rattle.packet_decoder.specs.Unread.{and_before, events_left}
+use Rattle.packet_decoder.specs.EventReaders.{and_before, events_left}
 use Rattle.packet_decoder.specs.declared.failure.Failure.TheVariants as failure
 use Rattle.packet_decoder.proofs.Left.{one_read, refused_by}
 use Rattle.packet_decoder.proofs.Turns.{all_events}

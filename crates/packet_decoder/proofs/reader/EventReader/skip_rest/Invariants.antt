@@ -1,5 +1,5 @@
 use Rattle.std.proofs.Common.{◌≡◌, ◌-◌}
-use Rattle.packet_decoder.specs.Unread.{events_left, refusal}
+use Rattle.packet_decoder.specs.EventReaders.{events_left, refusal}
 use Rattle.packet_decoder.proofs.reader.EventReader.skip_rest.Given as goal
 
 abbrev pub invariant-loop-raw : goal.invariant-loop-raw

@@ -5,5 +5,5 @@ use Rattle.type_scope.proofs.name_map.NameMap.add.Goals as goal
 
 pub returns-clause-ok : goal.returns-clause-ok
 returns-clause-ok c =
-    let new = insert_entry-new (pointwise nat_eq) c.self.inside.places c.in_ok-name.name c.args.place (search rules) in
+    let new = insert_entry-new (pointwise nat_eq) c.self.inside.indices c.in_ok-name.name c.args.index (search rules) in
     search rules

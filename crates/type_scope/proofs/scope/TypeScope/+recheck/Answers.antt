@@ -12,5 +12,5 @@ recheck_all-returns-in_err-recheck_field-clause-step t c =
 
 pub recheck_at-returns-then-not-type_size-clause-step : goal.recheck_at-returns-then-not-type_size-clause-step
 recheck_at-returns-then-not-type_size-clause-step t c =
-    let passes = quiet c.args.block_context.now (tree c.args.self.now.table c.args.place) (state c.args.self.now).known in
+    let passes = quiet c.args.block_context.now (tree c.args.self.now.table c.args.index) (state c.args.self.now).known in
     search rules

@@ -5,7 +5,7 @@ use Rattle.type_scope.specs.View.{state}
 use Rattle.type_scope.proofs.scope.TypeScope.+recheck.Given as goal
 
 abbrev pub decreases-recheck_at : goal.decreases-recheck_at
-decreases-recheck_at l = 4 * l.place + 3
+decreases-recheck_at l = 4 * l.index + 3
 
 abbrev pub decreases-recheck_inside : goal.decreases-recheck_inside
 decreases-recheck_inside l = 4 * l.above + 2

@@ -4,5 +4,5 @@ use Rattle.type_scope.proofs.scope.TypeScope.may_be.Goals as goal
 
 pub get-requires : goal.get-requires
 get-requires c =
-    let there = type_there c.args.self.now c.args.place c.requires in
+    let there = type_there c.args.self.now c.args.index c.requires in
     search rules

@@ -10,5 +10,5 @@ invariant_of-self c = kept_rises c.self.inside.table c.push.new.self c.push.ensu
 pub returns : goal.returns
 unfolding state
 returns c =
-    let gives = pushed c.self.inside.table c.push.new.self _ _ c.push.result c.push.ensures.keeps c.self.invariant c.push.ensures.place c.push.ensures.fits c.push.ensures.breaks in
+    let gives = pushed c.self.inside.table c.push.new.self _ _ c.push.result c.push.ensures.keeps c.self.invariant c.push.ensures.index c.push.ensures.fits c.push.ensures.breaks in
     rw (sym c.self.view_is) gives

@@ -4,7 +4,7 @@ use Rattle.type_scope.proofs.Pushes.{same_types}
 use Rattle.type_scope.proofs.scope.TypeScope.recheck.Goals as goal
 
 pub recheck_at-requires : goal.recheck_at-requires
-recheck_at-requires c = type_there c.args.self.now c.args.place c.requires
+recheck_at-requires c = type_there c.args.self.now c.args.index c.requires
 
 pub returns-clause-step : goal.returns-clause-step
 unfolding state

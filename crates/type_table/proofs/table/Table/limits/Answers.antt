@@ -4,10 +4,10 @@ use Rattle.type_table.proofs.table.Table.limits.Goals as goal
 
 pub returns-clause-depth : goal.returns-clause-depth
 returns-clause-depth c =
-    let small = limited c.self.inside.names.keys c.self.inside.types c.self.inside.type_sizes c.args.place c.self.invariant (search rules) in
+    let small = limited c.self.inside.names.keys c.self.inside.types c.self.inside.type_sizes c.args.index c.self.invariant (search rules) in
     search rules
 
 pub returns-clause-nodes : goal.returns-clause-nodes
 returns-clause-nodes c =
-    let small = limited c.self.inside.names.keys c.self.inside.types c.self.inside.type_sizes c.args.place c.self.invariant (search rules) in
+    let small = limited c.self.inside.names.keys c.self.inside.types c.self.inside.type_sizes c.args.index c.self.invariant (search rules) in
     search rules

@@ -23,12 +23,12 @@ returns-clause-keeps c =
     let grows = grows_type c.self.inside.names.keys c.self.inside.types c.args.meta in
     rw (types, sym c.self.view_is) (keeps _ _ c.self.invariant.ranked grows)
 
-pub returns-clause-place : goal.returns-clause-place
-returns-clause-place c =
+pub returns-clause-index : goal.returns-clause-index
+returns-clause-index c =
     let types : c.push-2.new.self ≡ c.self.inside.types ++ c.args.meta ∷ [] = search rules in
-    let place : c.len-place.result ≡ length c.self.inside.types = search rules in
+    let index : c.len-index.result ≡ length c.self.inside.types = search rules in
     let pushed = tree_pushed c.self.inside.names.keys c.self.inside.types c.args.meta in
-    rw (types, place, sym c.self.view_is) (within_push c.self.inside.types c.args.meta, pushed)
+    rw (types, index, sym c.self.view_is) (within_push c.self.inside.types c.args.meta, pushed)
 
 pub returns-clause-fits : goal.returns-clause-fits
 returns-clause-fits c =
