@@ -3,7 +3,7 @@ use Rattle.std.proofs.Common.{◌≡◌, ◌∙◌, ℕ, ◌+◌, List, [], ◌�
 use Rattle.trace_types.specs.declared.event.Event.{Event}
 use Rattle.trace_types.specs.declared.event.KernelEvent.{KernelEvent}
 use Rattle.type_table.specs.SameTrace.{AreBoth, IsSameTrace}
-use Rattle.type_table.specs.TraceMetas.{IsSoundMeta, MetaParts}
+use Rattle.type_table.specs.TraceMetas.{IsSoundMeta, TraceMetaModel}
 use Rattle.ctf_fields.specs.declared.raw.RawEvent.{RawEvent}
 use Rattle.kernel_layout.specs.Kinds.{kind_of}
 use Rattle.kernel_layout.proofs.AlikeKinds.{kind_alike}
@@ -24,7 +24,7 @@ use Rattle.decode_pool.specs.Marks.{file_events, accepted_in}
 use Rattle.decode_pool.specs.OneTrace.{IsSameFile, TellSame}
 use Rattle.decode_pool.specs.Parts.{event_of, incomplete_in, accepted_packet, part_by, part_of, parts_of}
 
-module _ (host : ℕ) (m n : MetaParts) (sm : IsSoundMeta m) (sn : IsSoundMeta n) (same : IsSameTrace m n) where
+module _ (host : ℕ) (m n : TraceMetaModel) (sm : IsSoundMeta m) (sn : IsSoundMeta n) (same : IsSameTrace m n) where
   kind_same : (r s : RawEvent) → AlikeRaw m.table n.table r s → kind_of m r ≡ kind_of n s
   kind_same r s h = kind_alike m n sm sn same r s h.event h.fields
 

@@ -3,7 +3,7 @@ use Rattle.std.proofs.Common.{◌≡◌, ◌∙◌, ℕ, suc, ◌+◌, ◌-◌, 
 use Rattle.std.proofs.lemmas.Bool.{leb-false}
 use Rattle.std.proofs.lemmas.List.{drop-drop, length-append, map-append, take-append-drop}
 use Rattle.std.proofs.lemmas.List.Elements.{All-head, All-tail, All-take}
-use Rattle.type_table.specs.TraceMetas.{MetaParts}
+use Rattle.type_table.specs.TraceMetas.{TraceMetaModel}
 use Rattle.trace_types.specs.declared.event.Event.{Event}
 use Rattle.decode_pool.specs.declared.decoding.Job.{Job}
 use Rattle.decode_pool.specs.declared.files.FileBytes.{FileBytes}
@@ -103,7 +103,7 @@ listed_more (part.Accepted k ∷ ps) before lost =
     omega (arith, here, rest, length-append (added k lost) (listed (counts_of k) (left k lost) (accepted_in ps)))
 listed_more (part.Refused offset cause ∷ ps) before lost = let rest = listed_more ps before lost in omega (arith, rest)
 
-pub host_more : (host : ℕ) (meta : MetaParts) (fs : List FileBytes) → events_in (all_parts host meta fs) ≤ length (all_events host meta fs)
+pub host_more : (host : ℕ) (meta : TraceMetaModel) (fs : List FileBytes) → events_in (all_parts host meta fs) ≤ length (all_events host meta fs)
 host_more host meta [] = omega arith
 host_more host meta (f ∷ fs) =
     let ps = parts_of host meta f.bytes.items in

@@ -5,3 +5,5 @@ pub mod Reading
 pub mod Cutting
 pub mod AlikeHosts
 pub mod Batching
+pub mod Missing
+pub mod StandardFacts

@@ -2,12 +2,12 @@
 use Rattle.std.proofs.Common.{◌≡◌, ℕ, ◌+◌, ◌≤◌, Bool, true, false, if◌then◌else◌, nat_le, List, [], ◌∷◌, ◌++◌, append_assoc, append-nil, length, map, None, Some, Result, Ok, Err, refl, sym, ap, ap₂, arith}
 use Rattle.std.proofs.lemmas.Bool.{leb-true}
 use Rattle.std.proofs.lemmas.List.{length-append}
-use Rattle.type_table.specs.TraceMetas.{MetaParts}
+use Rattle.type_table.specs.TraceMetas.{TraceMetaModel}
 use Rattle.ctf_fields.specs.declared.raw.RawEvent.{RawEvent}
 use Rattle.trace_types.specs.declared.event.Event.{Event}
 use Rattle.trace_types.specs.declared.cause.Cause.{Cause}
 use Rattle.packet_decoder.specs.Events.{as_packet}
-use Rattle.packet_decoder.specs.Unread.{and_before, refusal}
+use Rattle.packet_decoder.specs.EventReaders.{and_before, refusal}
 use Rattle.packet_decoder.specs.declared.piece.PacketSpan.{PacketSpan}
 use Rattle.kernel_layout.specs.Kinds.{kind_of}
 use Rattle.decode_pool.specs.declared.decoded_packet.AcceptedPacket.{AcceptedPacket}
@@ -21,29 +21,29 @@ abbrev pub kept_so_far : PacketSpan → List Event → ℕ → AcceptedPacket
 kept_so_far span events incomplete = record { cpu = span.cpu; seq = span.seq; discarded = span.discarded; events = events; incomplete = incomplete }
 
 -- what the packet holds, with what is left of it
-abbrev pub with_left : ℕ → MetaParts → PacketSpan → List Event → ℕ → Result (List RawEvent) Cause → DecodedPacket
+abbrev pub with_left : ℕ → TraceMetaModel → PacketSpan → List Event → ℕ → Result (List RawEvent) Cause → DecodedPacket
 with_left host meta span events incomplete (Ok raws) = part.Accepted (kept_so_far span (events ++ map (event_of host meta) raws) (incomplete + incomplete_in meta raws))
 with_left host meta span events incomplete (Err cause) = part.Refused span.offset cause
 
-pub at_first : (host : ℕ) (meta : MetaParts) (span : PacketSpan) (left : Result (List RawEvent) Cause) → part_by host meta span (as_packet left) ≡ with_left host meta span [] 0 left
+pub at_first : (host : ℕ) (meta : TraceMetaModel) (span : PacketSpan) (left : Result (List RawEvent) Cause) → part_by host meta span (as_packet left) ≡ with_left host meta span [] 0 left
 at_first host meta span (Ok raws) = let e : 0 + incomplete_in meta raws ≡ incomplete_in meta raws = omega arith in ap (λ n. part.Accepted (kept_so_far span (map (event_of host meta) raws) n)) (sym e)
 at_first host meta span (Err cause) = refl
 
-lacking : MetaParts → RawEvent → ℕ
+lacking : TraceMetaModel → RawEvent → ℕ
 lacking meta raw = if (kind_of meta raw).1 then 1 else 0
 
-pub one_more : (host : ℕ) (meta : MetaParts) (span : PacketSpan) (events : List Event) (incomplete n : ℕ) (raw : RawEvent) (left : Result (List RawEvent) Cause) → n ≡ (if (kind_of meta raw).1 then 1 else 0)
+pub one_more : (host : ℕ) (meta : TraceMetaModel) (span : PacketSpan) (events : List Event) (incomplete n : ℕ) (raw : RawEvent) (left : Result (List RawEvent) Cause) → n ≡ (if (kind_of meta raw).1 then 1 else 0)
     → with_left host meta span events incomplete (and_before raw left) ≡ with_left host meta span (events ++ event_of host meta raw ∷ []) (incomplete + n) left
 one_more host meta span events incomplete n raw (Ok raws) e =
     let sum : incomplete + ((if (kind_of meta raw).1 then 1 else 0) + incomplete_in meta raws) ≡ (incomplete + n) + incomplete_in meta raws = omega (arith, e) in
     ap₂ (λ es k. part.Accepted (kept_so_far span es k)) (sym (append_assoc events (event_of host meta raw ∷ []) (map (event_of host meta) raws))) sum
 one_more host meta span events incomplete n raw (Err cause) e = refl
 
-pub at_last : (host : ℕ) (meta : MetaParts) (span : PacketSpan) (events : List Event) (incomplete : ℕ) → with_left host meta span events incomplete (Ok []) ≡ part.Accepted (kept_so_far span events incomplete)
+pub at_last : (host : ℕ) (meta : TraceMetaModel) (span : PacketSpan) (events : List Event) (incomplete : ℕ) → with_left host meta span events incomplete (Ok []) ≡ part.Accepted (kept_so_far span events incomplete)
 at_last host meta span events incomplete = let none : incomplete + 0 ≡ incomplete = omega arith in ap₂ (λ es n. part.Accepted (kept_so_far span es n)) (append-nil events) none
 
 -- where so many events were read and one more follows, they are too many
-pub too_many : (host : ℕ) (meta : MetaParts) (span : PacketSpan) (events : List Event) (incomplete most : ℕ) (raw : RawEvent) (left : Result (List RawEvent) Cause) → most ≤ length events → refusal left ≡ None
+pub too_many : (host : ℕ) (meta : TraceMetaModel) (span : PacketSpan) (events : List Event) (incomplete most : ℕ) (raw : RawEvent) (left : Result (List RawEvent) Cause) → most ≤ length events → refusal left ≡ None
     → part_within most (with_left host meta span events incomplete (and_before raw left)) ≡ None
 too_many host meta span events incomplete most raw (Ok raws) many e = by (nat_le (length all) most) refl
   where

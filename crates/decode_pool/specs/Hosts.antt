@@ -1,6 +1,6 @@
 -- The events of a host, of all of its files (the order of the files is that of their names' bytes, where they come from a folder; this project's own).
 use Rattle.std.specs.Prelude.{◌≡◌, ◌≤◌, ◌^◌, ◌+◌, ℕ, List, [], ◌∷◌, ◌++◌, length, map, unwrap_or}
-use Rattle.type_table.specs.TraceMetas.{MetaParts}
+use Rattle.type_table.specs.TraceMetas.{TraceMetaModel}
 use Rattle.trace_types.specs.declared.event.Event.{Event}
 use Rattle.trace_types.specs.declared.host.HostEvents.{HostEvents}
 use Rattle.trace_types.specs.declared.host.RefusedPacket.{RefusedPacket}
@@ -31,26 +31,26 @@ incomplete_in (k ∷ ks) = k.incomplete + incomplete_in ks
 -- ---- of all files, one after the other
 
 -- what their pieces hold, and how many pieces each has
-abbrev pub all_parts : ℕ → MetaParts → List FileBytes → List DecodedPacket
+abbrev pub all_parts : ℕ → TraceMetaModel → List FileBytes → List DecodedPacket
 all_parts host meta [] = []
 all_parts host meta (f ∷ fs) = parts_of host meta f.bytes.items ++ all_parts host meta fs
 
-abbrev pub part_counts : ℕ → MetaParts → List FileBytes → List ℕ
+abbrev pub part_counts : ℕ → TraceMetaModel → List FileBytes → List ℕ
 part_counts host meta fs = map (λ f. length (parts_of host meta f.bytes.items)) fs
 
-abbrev pub all_events : ℕ → MetaParts → List FileBytes → List Event
+abbrev pub all_events : ℕ → TraceMetaModel → List FileBytes → List Event
 all_events host meta [] = []
 all_events host meta (f ∷ fs) = file_events (parts_of host meta f.bytes.items) ++ all_events host meta fs
 
-abbrev pub all_refused : ℕ → MetaParts → List FileBytes → List RefusedPacket
+abbrev pub all_refused : ℕ → TraceMetaModel → List FileBytes → List RefusedPacket
 all_refused host meta [] = []
 all_refused host meta (f ∷ fs) = refused_in f.name (parts_of host meta f.bytes.items) ++ all_refused host meta fs
 
-abbrev pub all_packets : ℕ → MetaParts → List FileBytes → ℕ
+abbrev pub all_packets : ℕ → TraceMetaModel → List FileBytes → ℕ
 all_packets host meta [] = 0
 all_packets host meta (f ∷ fs) = length (accepted_in (parts_of host meta f.bytes.items)) + all_packets host meta fs
 
-abbrev pub all_incomplete : ℕ → MetaParts → List FileBytes → ℕ
+abbrev pub all_incomplete : ℕ → TraceMetaModel → List FileBytes → ℕ
 all_incomplete host meta [] = 0
 all_incomplete host meta (f ∷ fs) = incomplete_in (accepted_in (parts_of host meta f.bytes.items)) + all_incomplete host meta fs
 

@@ -2,7 +2,7 @@
 pub use Rattle.packet_decoder.specs.Packets.{packets_in}
 use Rattle.std.specs.Prelude.{ℕ, ◌+◌, List, [], ◌∷◌, length}
 use Rattle.std.specs.List.{AllByRecursion}
-use Rattle.type_table.specs.TraceMetas.{MetaParts}
+use Rattle.type_table.specs.TraceMetas.{TraceMetaModel}
 use Rattle.trace_types.specs.declared.host.HostEvents.{HostEvents}
 use Rattle.packet_decoder.specs.Pieces.{pieces}
 use Rattle.decode_pool.specs.declared.files.FileBytes.{FileBytes}
@@ -15,7 +15,7 @@ MAX_PACKETS = 1048576
 abbrev pub HasSmallFiles : HostFiles → Type 0
 HasSmallFiles host = AllByRecursion IsSmall host.files.items
 
-abbrev pub host_packets : MetaParts → List FileBytes → ℕ
+abbrev pub host_packets : TraceMetaModel → List FileBytes → ℕ
 host_packets meta [] = 0
 host_packets meta (f ∷ fs) = packets_in (pieces meta f.bytes.items) + host_packets meta fs
 

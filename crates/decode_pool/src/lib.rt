@@ -16,4 +16,4 @@ mod pieces;
 pub use all::{DecodeError, MAX_PACKETS, decode_all};
 pub use files::FileBytes;
 pub use hosts::{HostFiles, host_events};
-pub use laws::one_list;
+pub use laws::{marks_where_missing, one_list};

@@ -1,5 +1,5 @@
 use Rattle.std.proofs.Common.{◌≡◌, ◌∙◌, ◌+◌, ◌≤◌, ◌++◌, ◌∷◌, [], length, length-append, None, ap, sym, rules, arith, if◌then◌else◌}
-use Rattle.packet_decoder.specs.Unread.{and_before, events_left, refusal}
+use Rattle.packet_decoder.specs.EventReaders.{and_before, events_left, refusal}
 use Rattle.kernel_layout.specs.Kinds.{kind_of}
 use Rattle.decode_pool.specs.Excess.{part_within}
 use Rattle.decode_pool.specs.Parts.{event_of}

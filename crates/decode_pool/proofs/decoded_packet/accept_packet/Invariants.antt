@@ -1,5 +1,5 @@
 use Rattle.std.proofs.Common.{◌≡◌, ◌≤◌, ◌-◌, length}
-use Rattle.packet_decoder.specs.Unread.{events_left}
+use Rattle.packet_decoder.specs.EventReaders.{events_left}
 use Rattle.decode_pool.specs.Parts.{part_of_packet}
 use Rattle.decode_pool.proofs.Reading.{with_left}
 use Rattle.decode_pool.proofs.decoded_packet.accept_packet.Given as goal
