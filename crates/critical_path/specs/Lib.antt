@@ -1,0 +1,4 @@
+pub mod Holder
+pub mod Pieces
+pub mod Steps
+pub mod Laws

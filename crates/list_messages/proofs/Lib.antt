@@ -1,0 +1,2 @@
+pub mod AtEvents
+pub mod OfLists

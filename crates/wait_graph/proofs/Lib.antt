@@ -1,0 +1,15 @@
+pub mod Advance
+pub mod ByKind
+pub mod LinkFacts
+pub mod Noting
+pub mod Passing
+pub mod Pushes
+pub mod SendPlaces
+pub mod Shuffles
+pub mod Stretching
+pub mod WakeLists
+pub mod Waking
+pub mod Whole
+pub mod Halves
+pub mod NameLists
+pub mod Lookups

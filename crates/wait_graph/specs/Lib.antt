@@ -1,0 +1,13 @@
+pub mod States
+pub mod Links
+pub mod Named
+pub mod Graph
+pub mod Moments
+pub mod Changes
+pub mod Places
+pub mod Stretches
+pub mod Wakes
+pub mod Cuts
+pub mod Whole
+pub mod Names
+pub mod Found
