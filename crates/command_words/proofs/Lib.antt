@@ -1,6 +1,12 @@
 pub mod OptionWords
 pub mod FirstParts
 pub mod AllParts
-pub mod SixBytes
+pub mod CommandNames
 pub mod Drifts
+pub mod Windows
 pub mod OneCommand
+pub mod Cuts
+pub mod InOrder
+pub mod Walks
+pub mod Taken
+pub mod Found

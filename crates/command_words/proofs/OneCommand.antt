@@ -1,7 +1,6 @@
 -- Words are one command at most.
 use Rattle.std.proofs.Common.{◌≡◌, ℕ, ◌<◌, ◌^◌, true, List, [], ◌∷◌, Option, Some, None, drop, get_or, rules, refl, sym, ap, ap₂, ◌∙◌, subst, arith}
 use Rattle.std.specs.Prelude.{◌↔◌}
-use Rattle.std.specs.Fmt.{decimal}
 use Rattle.trace_types.proofs.Decimals.{same_number, below_wide}
 use Rattle.command_words.specs.Parts.{Part, same_name}
 use Rattle.command_words.specs.Shapes.{Gives, HaveShape, Shape, option_list}
@@ -10,10 +9,11 @@ use Rattle.command_words.specs.declared.option_name.OptionName.{OptionName}
 use Rattle.command_words.specs.declared.command.Command.{Command}
 use Rattle.command_words.specs.declared.command.Command.TheVariants.{Plain}
 use Rattle.command_words.specs.declared.command.PlainCommand.{PlainCommand}
-use Rattle.command_words.specs.declared.command.PlainCommand.TheVariants.{Check, Report, Events, State, Ask}
+use Rattle.command_words.specs.declared.command.PlainCommand.TheVariants.{Check, Report, Events, State, Ask, Path}
 use Rattle.command_words.specs.declared.command.Input.{Input}
 use Rattle.command_words.specs.declared.command.Input.TheVariants as input
 use Rattle.command_words.proofs.AllParts.{one_list}
+use Rattle.command_words.proofs.Windows.{one_instant, one_number, same_some, starts_low}
 
 -- ---- words give one shape
 same_value : (a b : Option (List ℕ)) (vs : List (List ℕ)) → vs ≡ option_list a → vs ≡ option_list b → a ≡ b
@@ -26,12 +26,16 @@ shape_of_parts : (ps : List Part) (s r : Shape) → HaveShape ps s → HaveShape
 shape_of_parts ps s r h g =
     let at = same_value s.at r.at _ h.at_is g.at_is in
     let drift = same_value s.drift r.drift _ h.drift_is g.drift_is in
+    let from = same_value s.from r.from _ h.from_is g.from_is in
+    let host = same_value s.host r.host _ h.host_is g.host_is in
     let list = same_value s.list r.list _ h.list_is g.list_is in
     let once = same_value s.once r.once _ h.once_is g.once_is in
     let questions = same_value s.questions r.questions _ h.questions_are g.questions_are in
+    let tid = same_value s.tid r.tid _ h.tid_is g.tid_is in
+    let to = same_value s.to r.to _ h.to_is g.to_is in
     let workers = same_value s.workers r.workers _ h.workers_are g.workers_are in
     let positional : s.positional ≡ r.positional = sym h.positional_are ∙ g.positional_are in
-    λ i. record { at = at i; drift = drift i; list = list i; once = once i; questions = questions i; workers = workers i; positional = positional i }
+    λ i. record { at = at i; drift = drift i; from = from i; host = host i; list = list i; once = once i; questions = questions i; tid = tid i; to = to i; workers = workers i; positional = positional i }
 
 pub one_shape : (ws : List (List ℕ)) (s r : Shape) → Gives ws s → Gives ws r → s ≡ r
 one_shape ws s r h g = shape_of_parts g.parts s r (subst (λ (ps : List Part). HaveShape ps s) (one_list ws h.parts g.parts h.are_parts g.are_parts) h.have_shape) g.have_shape
@@ -43,12 +47,6 @@ drift_range d h = below_wide d (2 ^ 62) (omega (arith, h.1)) (omega arith)
 one_drift : (given : Option (List ℕ)) (d e : ℕ) → GivesDrift given d → GivesDrift given e → d ≡ e
 one_drift None d e h g = h ∙ sym g
 one_drift (Some text) d e h g = same_number d e (drift_range d h.1) (drift_range e g.1) (sym h.0 ∙ g.0)
-
-same_some : (a : Option (List ℕ)) (u v : List ℕ) → a ≡ Some u → a ≡ Some v → u ≡ v
-same_some a u v e f = let same : Some u ≡ Some v = sym e ∙ f in cc
-
-one_instant : (given : Option (List ℕ)) (m n : ℕ) → given ≡ Some (decimal m) → given ≡ Some (decimal n) → m < 2 ^ 62 → n < 2 ^ 62 → m ≡ n
-one_instant given m n e f low high = same_number m n (below_wide m (2 ^ 62) low (omega arith)) (below_wide n (2 ^ 62) high (omega arith)) (same_some given (decimal m) (decimal n) e f)
 
 one_input : (s : Shape) (ws : List (List ℕ)) (a b : Input) → GivesInput s ws a → GivesInput s ws b → a ≡ b
 one_input s ws (input.List file) (input.List other) h g = ap input.List (same_some s.list file other h.0 g.0)
@@ -69,6 +67,15 @@ asked_once s ws (Ask source questions once) (Ask other asked ever) e h g =
     let files = same_some s.questions questions asked h.questions_are g.questions_are in
     let same : once ≡ ever = h.once_is ∙ sym g.once_is in
     λ i. Ask (sources i) (files i) (same i)
+asked_once s ws (Path source host tid from to) (Path other guest thread start end) e h g =
+    let w = h.gives_window in
+    let v = g.gives_window in
+    let sources = one_input s ws source other h.source_is g.source_is in
+    let hosts = one_number s.host host guest 64 (omega arith) w.host_is v.host_is w.is_window.host_below v.is_window.host_below in
+    let threads = one_number s.tid tid thread (2 ^ 31) (omega arith) w.tid_is v.tid_is w.is_window.tid_below v.is_window.tid_below in
+    let starts = one_instant s.from from start w.from_is v.from_is (starts_low w.is_window) (starts_low v.is_window) in
+    let ends = one_instant s.to to end w.to_is v.to_is w.is_window.to_below v.is_window.to_below in
+    λ i. Path (sources i) (hosts i) (threads i) (starts i) (ends i)
 asked_once s ws c d e h g = absurd (omega (arith, e))
 
 pub one_plain : (s : Shape) (c d : PlainCommand) → IsAsked s c → IsAsked s d → c ≡ d

@@ -1,5 +1,5 @@
 -- Each option word names one option.
-use Rattle.std.proofs.Common.{◌≡◌, ◌≢◌, ℕ, Bool, true, false, not, cond, List, [], ◌∷◌, ◌++◌, Option, Some, None, drop, get_or, codes, refl, sym, ap, ◌∙◌, subst, append-nil, arith}
+use Rattle.std.proofs.Common.{◌≡◌, ◌≢◌, ◌+◌, ◌*◌, ℕ, Bool, true, false, not, cond, List, [], ◌∷◌, ◌++◌, Option, Some, None, drop, get_or, codes, refl, sym, ap, ◌∙◌, subst, append-nil, arith}
 use Rattle.std.specs.Prelude.{◌==◌, ◌&&◌}
 use Rattle.std.specs.List.{AllByRecursion}
 use Rattle.trace_types.proofs.Cutting.{same_front}
@@ -23,9 +23,13 @@ plain (b ∷ bs) e = by (b == 61) refl e (plain bs)
 plain_name : (n : OptionName) → AllByRecursion (λ b. b ≢ 61) (name_text n)
 plain_name name.At = plain (name_text name.At) refl
 plain_name name.Drift = plain (name_text name.Drift) refl
+plain_name name.From = plain (name_text name.From) refl
+plain_name name.Host = plain (name_text name.Host) refl
 plain_name name.List = plain (name_text name.List) refl
 plain_name name.Once = plain (name_text name.Once) refl
 plain_name name.Questions = plain (name_text name.Questions) refl
+plain_name name.Tid = plain (name_text name.Tid) refl
+plain_name name.To = plain (name_text name.To) refl
 plain_name name.Workers = plain (name_text name.Workers) refl
 
 not_plain : (front v : List ℕ) → AllByRecursion (λ b. b ≢ 61) (front ++ 61 ∷ v) → ⊥
@@ -40,30 +44,45 @@ other_name front v h none n None e =
     not_plain front v (subst (AllByRecursion (λ b. b ≢ 61)) (sym same) (plain_name n))
 
 -- ---- an option word has one option, and one value or none
-abbrev letter : OptionName → ℕ
-letter name.At = 97
-letter name.Drift = 100
-letter name.List = 108
-letter name.Once = 111
-letter name.Questions = 113
-letter name.Workers = 119
+abbrev letters : OptionName → ℕ
+letters name.At = 24948
+letters name.Drift = 25714
+letters name.From = 26226
+letters name.Host = 26735
+letters name.List = 27753
+letters name.Once = 28526
+letters name.Questions = 29045
+letters name.Tid = 29801
+letters name.To = 29807
+letters name.Workers = 30575
 
-same_letter : (n m : OptionName) → letter n ≡ letter m → n ≡ m
-same_letter name.At name.At e = refl
-same_letter name.Drift name.Drift e = refl
-same_letter name.List name.List e = refl
-same_letter name.Once name.Once e = refl
-same_letter name.Questions name.Questions e = refl
-same_letter name.Workers name.Workers e = refl
-same_letter n m e = absurd (omega arith)
+abbrev first_two : List ℕ → ℕ
+first_two word = get_or word 0 0 * 256 + get_or word 1 0
 
-letter_is : (n : OptionName) (a : Option (List ℕ)) → get_or (name_text n ++ attached a) 0 0 ≡ letter n
-letter_is name.At a = refl
-letter_is name.Drift a = refl
-letter_is name.List a = refl
-letter_is name.Once a = refl
-letter_is name.Questions a = refl
-letter_is name.Workers a = refl
+same_letters : (n m : OptionName) → letters n ≡ letters m → n ≡ m
+same_letters name.At name.At e = refl
+same_letters name.Drift name.Drift e = refl
+same_letters name.From name.From e = refl
+same_letters name.Host name.Host e = refl
+same_letters name.List name.List e = refl
+same_letters name.Once name.Once e = refl
+same_letters name.Questions name.Questions e = refl
+same_letters name.Tid name.Tid e = refl
+same_letters name.To name.To e = refl
+same_letters name.Workers name.Workers e = refl
+same_letters n m e = absurd (omega arith)
+
+letters_are : (n : OptionName) (a : Option (List ℕ)) → first_two (name_text n ++ attached a) ≡ letters n
+letters_are name.At a = refl
+letters_are name.Drift a = refl
+letters_are name.From a = refl
+letters_are name.Host a = refl
+letters_are name.List a = refl
+letters_are name.Once a = refl
+letters_are name.Questions a = refl
+letters_are name.Tid a = refl
+letters_are name.To a = refl
+letters_are name.Workers a = refl
 
 abbrev after_equals : List ℕ → Option (List ℕ)
 after_equals [] = None
@@ -72,30 +91,42 @@ after_equals (b ∷ bs) = cond (b == 61) (Some bs) (after_equals bs)
 value_is : (n : OptionName) (a : Option (List ℕ)) → after_equals (name_text n ++ attached a) ≡ a
 value_is name.At None = refl
 value_is name.Drift None = refl
+value_is name.From None = refl
+value_is name.Host None = refl
 value_is name.List None = refl
 value_is name.Once None = refl
 value_is name.Questions None = refl
+value_is name.Tid None = refl
+value_is name.To None = refl
 value_is name.Workers None = refl
 value_is name.At (Some v) = refl
 value_is name.Drift (Some v) = refl
+value_is name.From (Some v) = refl
+value_is name.Host (Some v) = refl
 value_is name.List (Some v) = refl
 value_is name.Once (Some v) = refl
 value_is name.Questions (Some v) = refl
+value_is name.Tid (Some v) = refl
+value_is name.To (Some v) = refl
 value_is name.Workers (Some v) = refl
 
 pub same_option : (n m : OptionName) (a b : Option (List ℕ)) → option_word n a ≡ option_word m b → (n ≡ m) × (a ≡ b)
 same_option n m a b e =
     let same = ap (drop 2) e in
-    (same_letter n m (sym (letter_is n a) ∙ (ap (λ l. get_or l 0 0) same ∙ letter_is m b)), sym (value_is n a) ∙ (ap after_equals same ∙ value_is m b))
+    (same_letters n m (sym (letters_are n a) ∙ (ap first_two same ∙ letters_are m b)), sym (value_is n a) ∙ (ap after_equals same ∙ value_is m b))
 
 -- two minus signs alone are none
 pub dashes_alone : (n : OptionName) (a : Option (List ℕ)) → codes "--" ≢ option_word n a
-dashes_alone n a e = by n (ap (λ l. get_or l 2 0) e ∙ letter_is n a)
+dashes_alone n a e = by n (ap (λ l. first_two (drop 2 l)) e ∙ letters_are n a)
   where
-    by : (n : OptionName) → 0 ≡ letter n → ⊥
+    by : (n : OptionName) → 0 ≡ letters n → ⊥
     by name.At e = absurd (omega arith)
     by name.Drift e = absurd (omega arith)
+    by name.From e = absurd (omega arith)
+    by name.Host e = absurd (omega arith)
     by name.List e = absurd (omega arith)
     by name.Once e = absurd (omega arith)
     by name.Questions e = absurd (omega arith)
+    by name.Tid e = absurd (omega arith)
+    by name.To e = absurd (omega arith)
     by name.Workers e = absurd (omega arith)

@@ -33,9 +33,13 @@ positional_words (p ∷ ps) = option_list (word_if p.option p.text) ++ positiona
 pub record Shape : Type 0 where
   pub at : Option (List ℕ)
   pub drift : Option (List ℕ)
+  pub from : Option (List ℕ)
+  pub host : Option (List ℕ)
   pub list : Option (List ℕ)
   pub once : Option (List ℕ)
   pub questions : Option (List ℕ)
+  pub tid : Option (List ℕ)
+  pub to : Option (List ℕ)
   pub workers : Option (List ℕ)
   pub positional : List (List ℕ)
 
@@ -43,9 +47,13 @@ pub record Shape : Type 0 where
 pub record HaveShape (parts : List Part) (shape : Shape) : Type 0 where
   pub at_is : values name.At parts ≡ option_list shape.at
   pub drift_is : values name.Drift parts ≡ option_list shape.drift
+  pub from_is : values name.From parts ≡ option_list shape.from
+  pub host_is : values name.Host parts ≡ option_list shape.host
   pub list_is : values name.List parts ≡ option_list shape.list
   pub once_is : values name.Once parts ≡ option_list shape.once
   pub questions_are : values name.Questions parts ≡ option_list shape.questions
+  pub tid_is : values name.Tid parts ≡ option_list shape.tid
+  pub to_is : values name.To parts ≡ option_list shape.to
   pub workers_are : values name.Workers parts ≡ option_list shape.workers
   pub positional_are : positional_words parts ≡ shape.positional
 

@@ -5,7 +5,7 @@ use Rattle.command_words.specs.Shapes.{Gives, Shape}
 use Rattle.command_words.specs.declared.command.Command.{Command}
 use Rattle.command_words.specs.declared.command.Command.TheVariants.{Plain}
 use Rattle.command_words.specs.declared.command.PlainCommand.{PlainCommand}
-use Rattle.command_words.specs.declared.command.PlainCommand.TheVariants.{Check, Report, Events, State, Ask}
+use Rattle.command_words.specs.declared.command.PlainCommand.TheVariants.{Check, Report, Events, State, Ask, Path}
 use Rattle.command_words.specs.declared.command.Input.{Input}
 use Rattle.command_words.specs.declared.command.Input.TheVariants as input
 
@@ -42,9 +42,13 @@ GivesInput shape words (input.Folders folders drift) = (shape.list ≡ None) × 
 abbrev pub IsUnasked : Shape → Type 0
 IsUnasked shape = (shape.once ≡ None) × (shape.questions ≡ None) × (shape.workers ≡ None)
 
+-- none of the options of a thread's window is given (this project's own)
+abbrev pub HasNoWindow : Shape → Type 0
+HasNoWindow shape = (shape.host ≡ None) × (shape.tid ≡ None) × (shape.from ≡ None) × (shape.to ≡ None)
+
 -- none but `--drift` is given (this project's own)
 abbrev pub IsBare : Shape → Type 0
-IsBare shape = (shape.at ≡ None) × (shape.list ≡ None) × IsUnasked shape
+IsBare shape = (shape.at ≡ None) × (shape.list ≡ None) × IsUnasked shape × HasNoWindow shape
 
 -- `check`, which has no options (this project's own)
 pub record IsCheck (shape : Shape) (words folders : List (List ℕ)) : Type 0 where
@@ -66,6 +70,7 @@ pub record IsState (shape : Shape) (words : List (List ℕ)) (source : Input) (a
   pub at_below : at < 2 ^ 62
   pub source_is : GivesInput shape words source
   pub is_unasked : IsUnasked shape
+  pub no_window : HasNoWindow shape
 
 -- `ask`, with `--questions FILE`, `--workers` and `--once` (this project's own)
 pub record IsAsk (shape : Shape) (words : List (List ℕ)) (source : Input) (questions : List ℕ) (once : Bool) : Type 0 where
@@ -75,6 +80,30 @@ pub record IsAsk (shape : Shape) (words : List (List ℕ)) (source : Input) (que
   pub once_is : once ≡ is_some shape.once
   pub source_is : GivesInput shape words source
   pub no_at : shape.at ≡ None
+  pub no_window : HasNoWindow shape
+
+-- a host from 0 to 63, a thread from 1 to 2^31 - 1, and two instants from 0 to 2^62 - 1, one before the other (this project's own)
+pub record IsWindow (host tid from to : ℕ) : Type 0 where
+  pub host_below : host < 64
+  pub tid_least : 1 ≤ tid
+  pub tid_below : tid < 2 ^ 31
+  pub order : from < to
+  pub to_below : to < 2 ^ 62
+
+-- `--host H`, `--tid N`, `--from T` and `--to T` (this project's own)
+pub record GivesWindow (shape : Shape) (host tid from to : ℕ) : Type 0 where
+  pub host_is : shape.host ≡ Some (decimal host)
+  pub tid_is : shape.tid ≡ Some (decimal tid)
+  pub from_is : shape.from ≡ Some (decimal from)
+  pub to_is : shape.to ≡ Some (decimal to)
+  pub is_window : IsWindow host tid from to
+
+-- `path`, with a thread's window (this project's own)
+pub record IsPath (shape : Shape) (words : List (List ℕ)) (source : Input) (host tid from to : ℕ) : Type 0 where
+  pub gives_window : GivesWindow shape host tid from to
+  pub source_is : GivesInput shape words source
+  pub no_at : shape.at ≡ None
+  pub is_unasked : IsUnasked shape
 
 -- the word of a command (this project's own)
 abbrev pub command_name : PlainCommand → List ℕ
@@ -83,6 +112,7 @@ command_name (Report folders drift) = codes "report"
 command_name (Events folders drift) = codes "events"
 command_name (State source at) = codes "state"
 command_name (Ask source questions once) = codes "ask"
+command_name (Path source host tid from to) = codes "path"
 
 -- options and the words after COMMAND are those of a command (this project's own)
 abbrev pub Asks : Shape → List (List ℕ) → PlainCommand → Type 0
@@ -91,6 +121,7 @@ Asks shape words (Report folders drift) = IsMerged shape words folders drift
 Asks shape words (Events folders drift) = IsMerged shape words folders drift
 Asks shape words (State source at) = IsState shape words source at
 Asks shape words (Ask source questions once) = IsAsk shape words source questions once
+Asks shape words (Path source host tid from to) = IsPath shape words source host tid from to
 
 -- the first positional word is COMMAND, the others are INPUT, and the options are the command's (this project's own)
 pub record IsAsked (shape : Shape) (command : PlainCommand) : Type 0 where
@@ -113,13 +144,19 @@ abbrev pub InputHasRange : Input → Type 0
 InputHasRange (input.List file) = Unit {0}
 InputHasRange (input.Folders folders drift) = IsDrift drift
 
--- the drift of a command over folders is one (this project's own)
+-- an input with its drift, and a thread's window (this project's own)
+pub record HasPathRanges (source : Input) (host tid from to : ℕ) : Type 0 where
+  pub input_range : InputHasRange source
+  pub is_window : IsWindow host tid from to
+
+-- the drift of a command over folders is one, and a thread's window is one (this project's own)
 abbrev pub HasRanges : PlainCommand → Type 0
 HasRanges (Check folders) = Unit {0}
 HasRanges (Report folders drift) = IsDrift drift
 HasRanges (Events folders drift) = IsDrift drift
 HasRanges (State source at) = InputHasRange source
 HasRanges (Ask source questions once) = InputHasRange source
+HasRanges (Path source host tid from to) = HasPathRanges source host tid from to
 
 -- the same of any command (this project's own)
 abbrev pub AreRanges : Command → Type 0

@@ -40,6 +40,15 @@ pub enum PlainCommand {
         questions: Text,
         once: bool,
     },
+    /// Who holds a thread up at each instant of a window, in ns, from `from` on up to `to`. The host is below 64, the thread
+    /// from 1 to 2^31 - 1, and `from` before `to`, which is below 2^62.
+    Path {
+        input: Input,
+        host: u32,
+        tid: u32,
+        from: u64,
+        to: u64,
+    },
 }
 
 /// A command.

@@ -2,10 +2,14 @@
 #![tactic(auto)]
 
 mod command;
+mod command_name;
 pub mod laws;
+mod matched;
 mod option_name;
+mod ordered;
 mod part;
 mod parts;
+mod path;
 mod shape;
 mod table;
 mod words;

@@ -8,9 +8,13 @@ ghost use Rattle.command_words.specs.declared.option_name.OptionName.{OptionName
 pub enum OptionName {
     At,
     Drift,
+    From,
+    Host,
     List,
     Once,
     Questions,
+    Tid,
+    To,
     Workers,
 }
 
@@ -20,6 +24,24 @@ impl OptionName {
         ensures { result ≡ takes_value self }
     {
         !matches!(self, OptionName::Once)
+    }
+
+    /// The option's name, the minus signs before it left out.
+    pub fn name(self) -> &'static str
+        ensures { result.now ≡ name_text self }
+    {
+        match self {
+            OptionName::At => "at",
+            OptionName::Drift => "drift",
+            OptionName::From => "from",
+            OptionName::Host => "host",
+            OptionName::List => "list",
+            OptionName::Once => "once",
+            OptionName::Questions => "questions",
+            OptionName::Tid => "tid",
+            OptionName::To => "to",
+            OptionName::Workers => "workers",
+        }
     }
 }
 
@@ -31,9 +53,13 @@ pub fn option_named(name: &[u8]) -> Option<OptionName>
     match name {
         b"at" => Some(OptionName::At),
         b"drift" => Some(OptionName::Drift),
+        b"from" => Some(OptionName::From),
+        b"host" => Some(OptionName::Host),
         b"list" => Some(OptionName::List),
         b"once" => Some(OptionName::Once),
         b"questions" => Some(OptionName::Questions),
+        b"tid" => Some(OptionName::Tid),
+        b"to" => Some(OptionName::To),
         b"workers" => Some(OptionName::Workers),
         _ => None,
     }

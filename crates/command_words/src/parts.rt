@@ -49,7 +49,7 @@ fn push_positional<'a>(parts: &mut Vec<Part<'a>>, words: &'a [String]) -> Result
     ensures { IfOk result (λ _. parts.new.items ≡ parts.old.items ++ map positional (map string_bytes words.now)) }
 {
     for word in words {
-        parts.push(Part::positional(word.as_bytes()))?;
+        parts.push(Part::positional(word.as_str()))?;
     }
     Ok(())
 }

@@ -15,13 +15,17 @@ use trace_types::OutOfMemory;
 /// The value of each option that is given, a flag's being empty, and the positional words.
 #[derive(Drop)]
 pub struct Shape<'a> {
-    pub at: Option<&'a [u8]>,
-    pub drift: Option<&'a [u8]>,
-    pub list: Option<&'a [u8]>,
-    pub once: Option<&'a [u8]>,
-    pub questions: Option<&'a [u8]>,
-    pub workers: Option<&'a [u8]>,
-    pub positional: Vec<&'a [u8]>,
+    pub at: Option<&'a str>,
+    pub drift: Option<&'a str>,
+    pub from: Option<&'a str>,
+    pub host: Option<&'a str>,
+    pub list: Option<&'a str>,
+    pub once: Option<&'a str>,
+    pub questions: Option<&'a str>,
+    pub tid: Option<&'a str>,
+    pub to: Option<&'a str>,
+    pub workers: Option<&'a str>,
+    pub positional: Vec<&'a str>,
 }
 
 impl<'a> Model for Shape<'a> {
@@ -33,9 +37,13 @@ impl<'a> Model for Shape<'a> {
     ghost view = { λ s. record {
       at = option_map (λ v. v.now) s.at;
       drift = option_map (λ v. v.now) s.drift;
+      from = option_map (λ v. v.now) s.from;
+      host = option_map (λ v. v.now) s.host;
       list = option_map (λ v. v.now) s.list;
       once = option_map (λ v. v.now) s.once;
       questions = option_map (λ v. v.now) s.questions;
+      tid = option_map (λ v. v.now) s.tid;
+      to = option_map (λ v. v.now) s.to;
       workers = option_map (λ v. v.now) s.workers;
       positional = map (λ w. w.now) s.positional.items;
     } };
@@ -57,24 +65,32 @@ fn shape_of<'a>(alloc: Global, parts: &[Part<'a>]) -> Result<Shape<'a>, WordsErr
 {
     let at = value_of(parts, OptionName::At)?;
     let drift = value_of(parts, OptionName::Drift)?;
+    let from = value_of(parts, OptionName::From)?;
+    let host = value_of(parts, OptionName::Host)?;
     let list = value_of(parts, OptionName::List)?;
     let once = value_of(parts, OptionName::Once)?;
     let questions = value_of(parts, OptionName::Questions)?;
+    let tid = value_of(parts, OptionName::Tid)?;
+    let to = value_of(parts, OptionName::To)?;
     let workers = value_of(parts, OptionName::Workers)?;
     let positional = positional_of(alloc, parts)?;
     Ok(Shape {
         at,
         drift,
+        from,
+        host,
         list,
         once,
         questions,
+        tid,
+        to,
         workers,
         positional,
     })
 }
 
 // The value of an option, which may be given once.
-fn value_of<'a>(parts: &[Part<'a>], option: OptionName) -> Result<Option<&'a [u8]>, WordsError>
+fn value_of<'a>(parts: &[Part<'a>], option: OptionName) -> Result<Option<&'a str>, WordsError>
     ensures found { IfOk result (λ v. values option parts.now ≡ option_list (option_map (λ s. s.now) v)) }
     ensures usage { result ≡ Err Usage → 1 < length (values option parts.now) }
 {
@@ -91,7 +107,7 @@ fn value_of<'a>(parts: &[Part<'a>], option: OptionName) -> Result<Option<&'a [u8
 }
 
 // The value of an option in a part.
-fn value_in<'a>(part: &Part<'a>, option: OptionName) -> Option<&'a [u8]>
+fn value_in<'a>(part: &Part<'a>, option: OptionName) -> Option<&'a str>
     ensures { option_map (λ v. v.now) result ≡ value_if option part.now.option part.now.text }
 {
     match part.option {
@@ -101,7 +117,7 @@ fn value_in<'a>(part: &Part<'a>, option: OptionName) -> Option<&'a [u8]>
 }
 
 // The positional words.
-fn positional_of<'a>(alloc: Global, parts: &[Part<'a>]) -> Result<Vec<&'a [u8]>, OutOfMemory>
+fn positional_of<'a>(alloc: Global, parts: &[Part<'a>]) -> Result<Vec<&'a str>, OutOfMemory>
     ensures { IfOk result (λ words. map (λ w. w.now) words.items ≡ positional_words parts.now) }
 {
     let mut words = Vec::new(alloc);

@@ -1,12 +1,14 @@
 //! Which command the options and positional words are.
 ghost use Rattle.std.specs.Prelude.{◌≡◌, ◌≢◌, ◌∷◌, [], ◌↔◌, ◌<◌, ◌^◌, IfOk, IfSome, IfNone, Err, List, ℕ, IsTrue, None, Some, codes, map, option_map};
 ghost use Rattle.std.specs.Fmt.{decimal};
-ghost use Rattle.command_words.specs.Words.{AreFolders, GivesDrift, GivesInput, GivesWorkers, IsAsked, IsBare, IsMerged, IsUnasked};
+ghost use Rattle.command_words.specs.Words.{AreFolders, GivesDrift, GivesInput, GivesWorkers, HasNoWindow, IsAsked, IsBare, IsMerged, IsUnasked};
 ghost use Rattle.command_words.specs.declared.command.Input.{Input};
 ghost use Rattle.command_words.specs.declared.command.PlainCommand.{PlainCommand};
 ghost use Rattle.command_words.specs.declared.words.WordsError.TheVariants.{Usage};
 
 use crate::command::{Input, PlainCommand};
+use crate::command_name::{CommandName, command_named};
+use crate::path::read_path;
 use crate::shape::Shape;
 use crate::words::WordsError;
 use sqlite_items::Items;
@@ -27,18 +29,21 @@ pub fn read_command(alloc: Global, shape: &Shape) -> Result<PlainCommand, WordsE
     let Some((command, words)) = shape.positional.as_slice().split_first() else {
         return Err(WordsError::Usage);
     };
-    match *command {
-        b"check" => read_check(alloc, shape, words),
-        b"report" => read_report(alloc, shape, words),
-        b"events" => read_events(alloc, shape, words),
-        b"state" => read_state(alloc, shape, words),
-        b"ask" => read_ask(alloc, shape, words),
-        _ => Err(WordsError::Usage),
+    let Some(name) = command_named(command.as_bytes()) else {
+        return Err(WordsError::Usage);
+    };
+    match name {
+        CommandName::Check => read_check(alloc, shape, words),
+        CommandName::Report => read_report(alloc, shape, words),
+        CommandName::Events => read_events(alloc, shape, words),
+        CommandName::State => read_state(alloc, shape, words),
+        CommandName::Ask => read_ask(alloc, shape, words),
+        CommandName::Path => read_path(alloc, shape, words),
     }
 }
 
 // What metadata declares.
-fn read_check(alloc: Global, shape: &Shape, words: &[&[u8]]) -> Result<PlainCommand, WordsError>
+fn read_check(alloc: Global, shape: &Shape, words: &[&str]) -> Result<PlainCommand, WordsError>
     requires { shape.now.positional ≡ codes "check" ∷ map (λ w. w.now) words.now }
     ensures found { IfOk result (λ c. IsAsked shape.now c) }
     ensures usage { result ≡ Err Usage → (c : PlainCommand) → ¬ (IsAsked shape.now c) }
@@ -51,7 +56,7 @@ fn read_check(alloc: Global, shape: &Shape, words: &[&[u8]]) -> Result<PlainComm
 }
 
 // The views of events.
-fn read_report(alloc: Global, shape: &Shape, words: &[&[u8]]) -> Result<PlainCommand, WordsError>
+fn read_report(alloc: Global, shape: &Shape, words: &[&str]) -> Result<PlainCommand, WordsError>
     requires { shape.now.positional ≡ codes "report" ∷ map (λ w. w.now) words.now }
     ensures found { IfOk result (λ c. IsAsked shape.now c) }
     ensures usage { result ≡ Err Usage → (c : PlainCommand) → ¬ (IsAsked shape.now c) }
@@ -61,7 +66,7 @@ fn read_report(alloc: Global, shape: &Shape, words: &[&[u8]]) -> Result<PlainCom
 }
 
 // The merged events.
-fn read_events(alloc: Global, shape: &Shape, words: &[&[u8]]) -> Result<PlainCommand, WordsError>
+fn read_events(alloc: Global, shape: &Shape, words: &[&str]) -> Result<PlainCommand, WordsError>
     requires { shape.now.positional ≡ codes "events" ∷ map (λ w. w.now) words.now }
     ensures found { IfOk result (λ c. IsAsked shape.now c) }
     ensures usage { result ≡ Err Usage → (c : PlainCommand) → ¬ (IsAsked shape.now c) }
@@ -74,7 +79,7 @@ fn read_events(alloc: Global, shape: &Shape, words: &[&[u8]]) -> Result<PlainCom
 fn read_merged(
     alloc: Global,
     shape: &Shape,
-    words: &[&[u8]],
+    words: &[&str],
 ) -> Result<(Items<Text>, u32), WordsError>
     ensures found { IfOk result (λ r. IsMerged shape.now (map (λ w. w.now) words.now) r.0 r.1) }
     ensures usage { result ≡ Err Usage → (folders : List (List ℕ)) (drift : ℕ) → ¬ (IsMerged shape.now (map (λ w. w.now) words.now) folders drift) }
@@ -90,12 +95,12 @@ fn read_merged(
 }
 
 // The state at an instant.
-fn read_state(alloc: Global, shape: &Shape, words: &[&[u8]]) -> Result<PlainCommand, WordsError>
+fn read_state(alloc: Global, shape: &Shape, words: &[&str]) -> Result<PlainCommand, WordsError>
     requires { shape.now.positional ≡ codes "state" ∷ map (λ w. w.now) words.now }
     ensures found { IfOk result (λ c. IsAsked shape.now c) }
     ensures usage { result ≡ Err Usage → (c : PlainCommand) → ¬ (IsAsked shape.now c) }
 {
-    if !is_unasked(shape) {
+    if !is_unasked(shape) || !has_no_window(shape) {
         return Err(WordsError::Usage);
     }
     let Some(at) = read_instant(shape.at) else {
@@ -106,19 +111,19 @@ fn read_state(alloc: Global, shape: &Shape, words: &[&[u8]]) -> Result<PlainComm
 }
 
 // The answers to questions.
-fn read_ask(alloc: Global, shape: &Shape, words: &[&[u8]]) -> Result<PlainCommand, WordsError>
+fn read_ask(alloc: Global, shape: &Shape, words: &[&str]) -> Result<PlainCommand, WordsError>
     requires { shape.now.positional ≡ codes "ask" ∷ map (λ w. w.now) words.now }
     ensures found { IfOk result (λ c. IsAsked shape.now c) }
     ensures usage { result ≡ Err Usage → (c : PlainCommand) → ¬ (IsAsked shape.now c) }
 {
-    if shape.at.is_some() || !are_workers(shape.workers) {
+    if shape.at.is_some() || !has_no_window(shape) || !are_workers(shape.workers) {
         return Err(WordsError::Usage);
     }
     let Some(questions) = file_name(shape.questions) else {
         return Err(WordsError::Usage);
     };
     let input = read_input(alloc, shape, words)?;
-    let questions = Text::from_bytes(alloc, questions)?;
+    let questions = Text::from_bytes(alloc, questions.as_bytes())?;
     let once = shape.once.is_some();
     Ok(PlainCommand::Ask {
         input,
@@ -127,8 +132,8 @@ fn read_ask(alloc: Global, shape: &Shape, words: &[&[u8]]) -> Result<PlainComman
     })
 }
 
-// Where events come from: an event list, or the traces in folders.
-fn read_input(alloc: Global, shape: &Shape, words: &[&[u8]]) -> Result<Input, WordsError>
+/// Where events come from: an event list, or the traces in folders. `Usage` comes exactly where the words give neither.
+pub fn read_input(alloc: Global, shape: &Shape, words: &[&str]) -> Result<Input, WordsError>
     ensures found { IfOk result (λ i. GivesInput shape.now (map (λ w. w.now) words.now) i) }
     ensures usage { result ≡ Err Usage → (i : Input) → ¬ (GivesInput shape.now (map (λ w. w.now) words.now) i) }
 {
@@ -141,11 +146,11 @@ fn read_input(alloc: Global, shape: &Shape, words: &[&[u8]]) -> Result<Input, Wo
     if !words.is_empty() || shape.drift.is_some() {
         return Err(WordsError::Usage);
     }
-    Ok(Input::List(Text::from_bytes(alloc, file)?))
+    Ok(Input::List(Text::from_bytes(alloc, file.as_bytes())?))
 }
 
 // Folders, and the drift of their clocks.
-fn read_traces(alloc: Global, shape: &Shape, words: &[&[u8]]) -> Result<Input, WordsError>
+fn read_traces(alloc: Global, shape: &Shape, words: &[&str]) -> Result<Input, WordsError>
     requires { shape.now.list ≡ None }
     ensures found { IfOk result (λ i. GivesInput shape.now (map (λ w. w.now) words.now) i) }
     ensures usage { result ≡ Err Usage → (i : Input) → ¬ (GivesInput shape.now (map (λ w. w.now) words.now) i) }
@@ -158,7 +163,7 @@ fn read_traces(alloc: Global, shape: &Shape, words: &[&[u8]]) -> Result<Input, W
 }
 
 // One or more folders.
-fn read_folders(alloc: Global, words: &[&[u8]]) -> Result<Items<Text>, WordsError>
+fn read_folders(alloc: Global, words: &[&str]) -> Result<Items<Text>, WordsError>
     ensures found { IfOk result (λ folders. (folders ≡ map (λ w. w.now) words.now) × AreFolders (map (λ w. w.now) words.now)) }
     ensures usage { result ≡ Err Usage → ¬ (AreFolders (map (λ w. w.now) words.now)) }
 {
@@ -170,33 +175,33 @@ fn read_folders(alloc: Global, words: &[&[u8]]) -> Result<Items<Text>, WordsErro
         if word.is_empty() {
             return Err(WordsError::Usage);
         }
-        folders.push(Text::from_bytes(alloc, word)?)?;
+        folders.push(Text::from_bytes(alloc, word.as_bytes())?)?;
     }
     Ok(folders)
 }
 
 // A drift, in parts per million.
-fn read_drift(text: Option<&[u8]>) -> Option<u32>
+fn read_drift(text: Option<&str>) -> Option<u32>
     ensures found { IfSome result (λ d. GivesDrift (option_map (λ t. t.now) text.entry) d) }
     ensures none { IfNone result ((d : ℕ) → ¬ (GivesDrift (option_map (λ t. t.now) text.entry) d)) }
 {
     let Some(text) = text else {
         return Some(DRIFT);
     };
-    let drift = read_number_below(text, MAX_DRIFT as u64 + 1)? as u32;
+    let drift = read_number_below(text.as_bytes(), MAX_DRIFT as u64 + 1)? as u32;
     if drift == 0 { None } else { Some(drift) }
 }
 
-// An instant, in ns.
-fn read_instant(text: Option<&[u8]>) -> Option<u64>
+/// An instant, in ns, below 2^62. `None` comes exactly where the text is none.
+pub fn read_instant(text: Option<&str>) -> Option<u64>
     ensures found { IfSome result (λ n. (option_map (λ t. t.now) text.entry ≡ Some (decimal n)) × (n < 2 ^ 62)) }
     ensures none { IfNone result ((n : ℕ) → n < 2 ^ 62 → option_map (λ t. t.now) text.entry ≢ Some (decimal n)) }
 {
-    read_number_below(text?, TIME_END)
+    read_number_below(text?.as_bytes(), TIME_END)
 }
 
 // The name of a file, which isn't empty.
-fn file_name(text: Option<&[u8]>) -> Option<&[u8]>
+fn file_name(text: Option<&str>) -> Option<&str>
     ensures found { IfSome result (λ name. (option_map (λ t. t.now) text.entry ≡ Some name.now) × (name.now ≢ [])) }
     ensures none { IfNone result ((name : List ℕ) → name ≢ [] → option_map (λ t. t.now) text.entry ≢ Some name) }
 {
@@ -205,17 +210,17 @@ fn file_name(text: Option<&[u8]>) -> Option<&[u8]>
 }
 
 // Whether the number of workers is absent, or 0.
-fn are_workers(text: Option<&[u8]>) -> bool
+fn are_workers(text: Option<&str>) -> bool
     ensures { IsTrue result ↔ GivesWorkers (option_map (λ t. t.now) text.entry) }
 {
     match text {
         None => true,
-        Some(text) => read_number_below(text, 1).is_some(),
+        Some(text) => read_number_below(text.as_bytes(), 1).is_some(),
     }
 }
 
-// Whether no option of `ask` is given but those of INPUT.
-fn is_unasked(shape: &Shape) -> bool
+/// Whether no option of `ask` is given but those of INPUT.
+pub fn is_unasked(shape: &Shape) -> bool
     ensures { IsTrue result ↔ IsUnasked shape.now }
 {
     shape.once.is_none() && shape.questions.is_none() && shape.workers.is_none()
@@ -225,5 +230,12 @@ fn is_unasked(shape: &Shape) -> bool
 fn is_bare(shape: &Shape) -> bool
     ensures { IsTrue result ↔ IsBare shape.now }
 {
-    shape.at.is_none() && shape.list.is_none() && is_unasked(shape)
+    shape.at.is_none() && shape.list.is_none() && is_unasked(shape) && has_no_window(shape)
+}
+
+// Whether no option of a window is given.
+fn has_no_window(shape: &Shape) -> bool
+    ensures { IsTrue result ↔ HasNoWindow shape.now }
+{
+    shape.host.is_none() && shape.tid.is_none() && shape.from.is_none() && shape.to.is_none()
 }

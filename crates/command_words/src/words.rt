@@ -5,6 +5,8 @@ ghost use Rattle.command_words.specs.declared.words.WordsError.TheVariants.{Usag
 ghost use Rattle.command_words.specs.declared.command.Command.{Command};
 
 use crate::command::Command;
+use crate::matched::matched_shape;
+use crate::ordered::ordered_words;
 use crate::shape::read_shape;
 use crate::table::read_command;
 use std::alloc::{AllocError, Global};
@@ -45,6 +47,8 @@ pub fn parse_words(alloc: Global, words: &[String]) -> Result<Command, WordsErro
     ensures usage { result ≡ Err Usage → (c : Command) → ¬ (IsCommand (map string_bytes words.now) c) }
     ensures ranges { IfOk result AreRanges }
 {
-    let shape = read_shape(alloc, words)?;
+    let given = read_shape(alloc, words)?;
+    let ordered = ordered_words(alloc, &given)?;
+    let shape = matched_shape(alloc, &ordered)?;
     Ok(Command::Plain(read_command(alloc, &shape)?))
 }

@@ -64,3 +64,28 @@ fn questions(rt: HostRuntime) -> Result<(), Fail> {
         ],
     )
 }
+
+#[test]
+fn paths(rt: HostRuntime) -> Result<(), Fail> {
+    check_rows(
+        &rt,
+        &[
+            (
+                "path --host 0 --tid 1 --from 0 --to 1 X",
+                "path of 1 on 0 from 0 to 1, drift 1000, X",
+            ),
+            (
+                "--to 9 --list=A --host=3 path --from 5 --tid=7",
+                "path of 7 on 3 from 5 to 9, list A",
+            ),
+            (
+                "path X --to=4611686018427387903 --from=4611686018427387902 --tid=2147483647 --host=63 Y",
+                "path of 2147483647 on 63 from 4611686018427387902 to 4611686018427387903, drift 1000, X, Y",
+            ),
+            (
+                "--drift 5 --from 3 --to 40 --host 10 --tid 20 -- path -x --at",
+                "path of 20 on 10 from 3 to 40, drift 5, -x, --at",
+            ),
+        ],
+    )
+}

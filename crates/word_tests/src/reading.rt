@@ -35,22 +35,16 @@ pub fn check_rows<R: AllocGlobal + Abort>(rt: &R, rows: &[(&str, &str)]) -> Resu
 }
 
 fn text_of(alloc: Global, command: &PlainCommand) -> Result<String, Fail> {
-    let text = match command {
+    match command {
         PlainCommand::Check { folders } => {
             let names = names_of(alloc, folders)?;
-            format!(in alloc; "check{names}")?
+            Ok(format!(in alloc; "check{names}")?)
         }
-        PlainCommand::Report { folders, drift } => {
-            let names = names_of(alloc, folders)?;
-            format!(in alloc; "report, drift {drift}{names}")?
-        }
-        PlainCommand::Events { folders, drift } => {
-            let names = names_of(alloc, folders)?;
-            format!(in alloc; "events, drift {drift}{names}")?
-        }
+        PlainCommand::Report { folders, drift } => merged_text(alloc, "report", folders, *drift),
+        PlainCommand::Events { folders, drift } => merged_text(alloc, "events", folders, *drift),
         PlainCommand::State { input, at } => {
             let source = input_of(alloc, input)?;
-            format!(in alloc; "state at {at}{source}")?
+            Ok(format!(in alloc; "state at {at}{source}")?)
         }
         PlainCommand::Ask {
             input,
@@ -59,10 +53,29 @@ fn text_of(alloc: Global, command: &PlainCommand) -> Result<String, Fail> {
         } => {
             let source = input_of(alloc, input)?;
             let file = name_of(alloc, questions)?;
-            format!(in alloc; "ask {file}, once {once}{source}")?
+            Ok(format!(in alloc; "ask {file}, once {once}{source}")?)
         }
-    };
-    Ok(text)
+        PlainCommand::Path {
+            input,
+            host,
+            tid,
+            from,
+            to,
+        } => {
+            let source = input_of(alloc, input)?;
+            Ok(format!(in alloc; "path of {tid} on {host} from {from} to {to}{source}")?)
+        }
+    }
+}
+
+fn merged_text(
+    alloc: Global,
+    word: &str,
+    folders: &Items<Text>,
+    drift: u32,
+) -> Result<String, Fail> {
+    let names = names_of(alloc, folders)?;
+    Ok(format!(in alloc; "{word}, drift {drift}{names}")?)
 }
 
 fn input_of(alloc: Global, input: &Input) -> Result<String, Fail> {

@@ -100,3 +100,42 @@ fn values(rt: HostRuntime) -> Result<(), Fail> {
         ],
     )
 }
+
+#[test]
+fn windows(rt: HostRuntime) -> Result<(), Fail> {
+    refused(
+        &rt,
+        &[
+            "path --tid 1 --from 0 --to 1 X",
+            "path --host 0 --from 0 --to 1 X",
+            "path --host 0 --tid 1 --to 1 X",
+            "path --host 0 --tid 1 --from 0 X",
+            "path --host 0 --tid 1 --from 0 --to 1",
+            "path --host 0 --tid 1 --from 0 --to 1 --list A X",
+            "path --host 0 --host 0 --tid 1 --from 0 --to 1 X",
+            "path --host 0 --tid 1 --tid=1 --from 0 --to 1 X",
+            "path --host 0 --tid 1 --from 0 --from 0 --to 1 X",
+            "path --host 0 --tid 1 --from 0 --to 1 --to 1 X",
+            "path --host 00 --tid 1 --from 0 --to 1 X",
+            "path --host 0 --tid 01 --from 0 --to 1 X",
+            "path --host 0 --tid 1 --from=00 --to 1 X",
+            "path --host 0 --tid 1 --from 0 --to=01 X",
+            "path --host 64 --tid 1 --from 0 --to 1 X",
+            "path --host 0 --tid 0 --from 0 --to 1 X",
+            "path --host 0 --tid 2147483648 --from 0 --to 1 X",
+            "path --host 0 --tid 1 --from 5 --to 5 X",
+            "path --host 0 --tid 1 --from 10 --to 9 X",
+            "path --host 0 --tid 1 --from 0 --to 4611686018427387904 X",
+            "path --host= --tid 1 --from 0 --to 1 X",
+            "path --host 0 --tid 1 --from 0 --to 1 --at 0 X",
+            "path --host 0 --tid 1 --from 0 --to 1 --once X",
+            "path --host 0 --tid 1 --from 0 --to 1 --questions Q X",
+            "path --host 0 --tid 1 --from 0 --to 1 --workers 0 X",
+            "check --host 0 X",
+            "report --tid 1 X",
+            "events --to 1 X",
+            "state --at 1 --from 0 --list A",
+            "ask --questions Q --list A --host 0",
+        ],
+    )
+}

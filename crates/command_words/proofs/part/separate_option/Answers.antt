@@ -8,4 +8,4 @@ returns-then-not-takes_value-clause-found c = flag _ _ _ c.args.option (search r
 
 pub returns-else-is_dashed-clause-found : goal.returns-else-is_dashed-clause-found
 returns-else-is_dashed-clause-found c =
-    separate _ _ _ c.args.option c.as_bytes-value.result.now c.valued-else-is_dashed.ensures (search rules) (search rules) (ap (λ l. option_word c.args.option None ∷ l) (search rules))
+    separate _ _ _ c.args.option c.as_str-value.result.now c.valued-else-is_dashed.ensures (search rules) (search rules) (ap (λ l. option_word c.args.option None ∷ l) (search rules))
