@@ -1,5 +1,5 @@
 -- The lines of answers, one question after the other.
-use Rattle.std.proofs.Common.{◌≡◌, ℕ, zero, suc, ◌+◌, ◌<◌, List, [], ◌∷◌, ◌++◌, length, take, get_or, sym, ap, ◌∙◌, append_assoc, append-nil, arith}
+use Rattle.std.proofs.Common.{◌≡◌, ℕ, zero, suc, ◌+◌, ◌<◌, List, [], ◌∷◌, ◌++◌, length, take, get_or, sym, ap, ◌∙◌, subst, append_assoc, append-nil, arith}
 use Rattle.std.specs.Prelude.{flat_map}
 use Rattle.std.specs.List.{AllByRecursion}
 use Rattle.history_core.specs.declared.question.Question.{Question}
@@ -18,6 +18,14 @@ module _ {A : Type 0} where
 
   pub take_more : (f : A → List ℕ) (xs : List A) (i : ℕ) (d : A) → i < length xs → flat_map f (take (i + 1) xs) ≡ flat_map f (take i xs) ++ f (get_or xs i d)
   take_more f xs i d l = let next : i + 1 ≡ suc i = omega arith in ap (λ n. flat_map f (take n xs)) next ∙ take_suc f xs i d l
+
+  all_suc : (P : A → Type 0) (xs : List A) (i : ℕ) (d : A) → i < length xs → AllByRecursion P (take i xs) → P (get_or xs i d) → AllByRecursion P (take (suc i) xs)
+  all_suc P [] i d l h p = absurd (omega (arith, l))
+  all_suc P (x ∷ xs) zero d l h p = (p, tt)
+  all_suc P (x ∷ xs) (suc i) d l h p = (h.0, all_suc P xs i d (omega (arith, l)) h.1 p)
+
+  pub all_more : (P : A → Type 0) (xs : List A) (i : ℕ) (d : A) → i < length xs → AllByRecursion P (take i xs) → P (get_or xs i d) → AllByRecursion P (take (i + 1) xs)
+  all_more P xs i d l h p = let next : suc i ≡ i + 1 = omega arith in subst (λ n. AllByRecursion P (take n xs)) next (all_suc P xs i d l h p)
 
 -- the questions of a file ask for instants before the end of all times
 pub all_timely : (questions : List Question) → AllByRecursion IsQuestion questions → AllByRecursion IsTimely questions

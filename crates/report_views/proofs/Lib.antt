@@ -7,3 +7,4 @@ pub mod ReportLines
 pub mod MarkCounts
 pub mod MessageCounts
 pub mod SameReports
+pub mod Stretches

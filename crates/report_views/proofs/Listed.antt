@@ -16,8 +16,8 @@ use Rattle.trace_types.specs.declared.value.Value.{Value}
 use Rattle.trace_types.specs.declared.value.Value.TheVariants.{Null}
 use Rattle.trace_types.specs.declared.event.Merged.{Merged}
 use Rattle.trace_types.specs.Same.{same_path, same_value}
-use Rattle.trace_types.specs.Paths.{place_of}
-use Rattle.trace_types.proofs.Same.{path_is, path_itself, value_is, value_itself, path_from_place}
+use Rattle.trace_types.specs.Paths.{rank_of}
+use Rattle.trace_types.proofs.Same.{path_is, path_itself, value_is, value_itself, path_from_rank}
 use Rattle.event_list.specs.Order.{RiseFrom}
 use Rattle.kernel_provider.specs.declared.rules.Assignment.{Assignment}
 use Rattle.kernel_provider.specs.declared.step.Step.{Step}
@@ -185,7 +185,7 @@ before rows distinct up i j d below long =
     let b = get_or rows j d in
     let differ : same_path (get_or (paths rows) i d.path) (get_or (paths rows) j d.path) ≡ false = apart_from_distinct same_path (paths rows) i j d.path distinct below (omega (arith, length-map rows (λ (r : Row). r.path), long)) in
     let other : same_path a.path b.path ≡ false = ap₂ same_path (sym (get_or-map (λ (r : Row). r.path) rows i d d.path (omega (arith, below, long)))) (sym (get_or-map (λ (r : Row). r.path) rows j d d.path long)) ∙ differ in
-    strictly (place_of a.path) (place_of b.path) (up i j d below long) (λ e. unlike a.path b.path other (path_from_place a.path b.path e))
+    strictly (rank_of a.path) (rank_of b.path) (up i j d below long) (λ e. unlike a.path b.path other (path_from_rank a.path b.path e))
   where
     unlike : (p q : AttributePath) → same_path p q ≡ false → p ≡ q → ⊥
     unlike p q h e = let k : same_path p q ≡ true = subst (λ x. same_path p x ≡ true) e (path_itself p) in absurd (cc)

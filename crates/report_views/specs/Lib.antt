@@ -3,5 +3,7 @@ pub mod Rows
 pub mod Values
 pub mod StateText
 pub mod AnswersText
+pub mod Pieces
 pub mod Report
 pub mod SameReport
+pub mod Stretches

@@ -3,7 +3,7 @@ use Rattle.std.specs.Prelude.{◌≡◌, ◌≢◌, ℕ, Bool, false, not, IsTru
 use Rattle.std.specs.List.{AllPairs}
 use Rattle.std.specs.Ordering.{nat_cmp, is_lt}
 use Rattle.std.specs.Cmp.Lexicographic.{slice_cmp}
-use Rattle.trace_types.specs.Paths.{path_text, place_of}
+use Rattle.trace_types.specs.Paths.{path_text, rank_of}
 use Rattle.trace_types.specs.declared.path.Path.{Path as AttributePath}
 use Rattle.trace_types.specs.declared.value.Value.{Value}
 use Rattle.trace_types.specs.declared.value.Value.TheVariants.{Null}
@@ -17,11 +17,11 @@ row_text names row = path_text row.path ++ 32 ∷ value_text names row.path row.
 
 -- the first row is listed before the second
 abbrev pub IsBefore : Row → Row → Type 0
-IsBefore a b = IsTrue (is_lt (slice_cmp nat_cmp (place_of a.path) (place_of b.path)))
+IsBefore a b = IsTrue (is_lt (slice_cmp nat_cmp (rank_of a.path) (rank_of b.path)))
 
 -- the second row isn't listed before the first
 abbrev pub IsNotAfter : Row → Row → Type 0
-IsNotAfter a b = is_lt (slice_cmp nat_cmp (place_of b.path) (place_of a.path)) ≡ false
+IsNotAfter a b = is_lt (slice_cmp nat_cmp (rank_of b.path) (rank_of a.path)) ≡ false
 
 -- the row's attribute has a value
 abbrev pub has_value : Row → Bool

@@ -4,6 +4,7 @@ use Rattle.std.specs.List.{starts_with}
 use Rattle.std.specs.Ordering.{int_eq}
 use Rattle.std.specs.Fmt.{signed_decimal}
 use Rattle.trace_types.specs.ByteTexts.{byte_text}
+use Rattle.trace_types.specs.CallNames.{call_entry}
 use Rattle.event_list.specs.Lines.{name_at}
 use Rattle.trace_types.specs.declared.path.Path.{Path as AttributePath}
 use Rattle.trace_types.specs.declared.path.Path.TheVariants as path
@@ -25,14 +26,10 @@ abbrev pub int_text : AttributePath → ℤ → List ℕ
 int_text (path.Thread host thread thread_leaf.Status) z = status_text z
 int_text p z = codes "int " ++ signed_decimal z
 
--- what the names of calls begin with
-abbrev pub entry : List ℕ
-entry = codes "syscall_entry_"
-
 -- a name without the first place of these bytes in it
 abbrev pub call_name : List ℕ → List ℕ
 call_name [] = []
-call_name (b ∷ bs) = if starts_with nat_eq (b ∷ bs) entry then drop 14 (b ∷ bs) else b ∷ call_name bs
+call_name (b ∷ bs) = if starts_with nat_eq (b ∷ bs) call_entry then drop 14 (b ∷ bs) else b ∷ call_name bs
 
 -- the host of a path
 abbrev pub host_of : AttributePath → ℕ

@@ -1,7 +1,7 @@
 //! The text of the state at an instant.
 ghost use Rattle.std.specs.Prelude.{◌≡◌, ◌++◌, ◌∷◌, [], IfOk, OnOk, flat_map, filter, IsPermutation};
 ghost use Rattle.std.specs.List.{AllPairs};
-ghost use Rattle.trace_types.specs.Paths.{place_of};
+ghost use Rattle.trace_types.specs.Paths.{rank_of};
 ghost use Rattle.event_list.specs.Names.{names_at};
 ghost use Rattle.event_list.specs.Order.{RiseFrom};
 ghost use Rattle.kernel_provider.specs.Replay.{state_at};
@@ -31,8 +31,8 @@ fn sort_rows(rows: &mut [Row])
 {
     rows.sort_unstable_by_key(
         |row: &Row|
-            ensures { result ≡ place_of row.now.path }
-        { row.path.place() },
+            ensures { result ≡ rank_of row.now.path }
+        { row.path.rank() },
     );
 }
 
