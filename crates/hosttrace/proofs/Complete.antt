@@ -3,6 +3,8 @@ use Rattle.std.proofs.Common.{◌≡◌, ◌⊎◌, inl, inr, ℕ, ◌+◌, ◌�
 use Rattle.std.specs.Prelude.{IfSome, IsSome}
 use Rattle.ht_outside.specs.Files.{Files, bytes_of}
 use Rattle.event_list.specs.declared.parsed_line.ParsedLine.{ParsedLine}
+use Rattle.trace_types.specs.declared.event.Merged.{Merged}
+use Rattle.wait_graph.specs.Named.{IsNamed}
 use Rattle.type_scope.specs.Traces.{Trace}
 use Rattle.trace_metadata.specs.Files.{IsTrace}
 use Rattle.trace_metadata.proofs.OneTrace.{not_refused}
@@ -10,7 +12,7 @@ use Rattle.history_core.specs.declared.question.Question.{Question}
 use Rattle.command_words.specs.declared.command.Command.{Command}
 use Rattle.command_words.specs.declared.command.Command.TheVariants.{Plain}
 use Rattle.command_words.specs.declared.command.PlainCommand.{PlainCommand}
-use Rattle.command_words.specs.declared.command.PlainCommand.TheVariants.{Check, Report, Events, State, Ask}
+use Rattle.command_words.specs.declared.command.PlainCommand.TheVariants.{Check, Report, Events, State, Ask, Path}
 use Rattle.command_words.specs.declared.command.Input.{Input}
 use Rattle.command_words.specs.declared.command.Input.TheVariants as input
 use Rattle.command_words.proofs.OneCommand.{same_command}
@@ -21,7 +23,7 @@ use Rattle.hosttrace.specs.Hosts.{AreTraces}
 use Rattle.hosttrace.specs.Inputs.{IsList, AreAsked}
 use Rattle.hosttrace.specs.Means.{AreChecked, IsGood, IsGoodInput}
 use Rattle.hosttrace.specs.Outcome.{Means, PlainMeans, IsValid, IsFaultless, IsOutcome, IsPlainOutcome}
-use Rattle.hosttrace.specs.Refusals.{CheckRefuses, ClusterRefuses, FoldersRefuse, HostsRefuse, InputRefuses, IsCrowd, LimitsRefuse, ListRefuses, MetadataRefuses, NamesRefuse, QuestionsRefuse, Refuses, SizeRefuses, StreamRefuses, StreamsRefuse, TracesRefuse}
+use Rattle.hosttrace.specs.Refusals.{CheckRefuses, ClusterRefuses, FoldersRefuse, HostsRefuse, InputRefuses, IsCrowd, LimitsRefuse, ListRefuses, MetadataRefuses, NamesRefuse, QuestionsRefuse, Refuses, SizeRefuses, StreamRefuses, StreamsRefuse, ThreadRefuses, TracesRefuse}
 use Rattle.hosttrace.specs.Seen.{Seen}
 use Rattle.hosttrace.specs.Streams.{AreFolders, AreStreamsRead, StreamFits, folder_size, metadata_size, size_of}
 use Rattle.hosttrace.specs.declared.status.ListFile.TheVariants.{Events as EventsFile, Questions}
@@ -29,7 +31,7 @@ use Rattle.hosttrace.specs.declared.status.Limit.TheVariants as limit
 use Rattle.hosttrace.specs.declared.status.Status.{Status}
 use Rattle.hosttrace.specs.declared.status.Status.TheVariants.{Done, Usage, Refused, ReadFault, WriteFault, NoMemory}
 use Rattle.hosttrace.specs.declared.status.Refusal.{Refusal}
-use Rattle.hosttrace.specs.declared.status.Refusal.TheVariants.{NoMetadata, BadMetadata, BadList, TooLarge, TooManyEvents}
+use Rattle.hosttrace.specs.declared.status.Refusal.TheVariants.{NoMetadata, NoThread, BadMetadata, BadList, TooLarge, TooManyEvents}
 use Rattle.hosttrace.proofs.OneOrder.{one_names, shown_alike}
 
 told : (seen : Option Files) (files : Files) (P : Files → Type 0) → seen ≡ Some files → IfSome seen P → P files
@@ -41,6 +43,7 @@ good_list bytes (BadList EventsFile line) h events g = h.1 events g.is_list
 good_list bytes TooManyEvents h parsed_lines g = let few = g.few in absurd (omega (arith, few, h.2 parsed_lines g.is_list))
 good_list bytes (BadList Questions line) h events g = h
 good_list bytes (NoMetadata host) h events g = h
+good_list bytes (NoThread host tid) h events g = h
 good_list bytes (BadMetadata host cause) h events g = h
 good_list bytes (TooLarge limit.Hosts) h events g = h
 good_list bytes (TooLarge limit.Names) h events g = h
@@ -55,6 +58,7 @@ good_questions bytes (BadList EventsFile line) h questions g = h
 good_questions bytes TooManyEvents h questions g = h
 good_questions bytes (BadList Questions line) h questions g = h.2 questions g.are_questions
 good_questions bytes (NoMetadata host) h questions g = h
+good_questions bytes (NoThread host tid) h questions g = h
 good_questions bytes (BadMetadata host cause) h questions g = h
 good_questions bytes (TooLarge limit.Hosts) h questions g = h
 good_questions bytes (TooLarge limit.Names) h questions g = h
@@ -75,6 +79,7 @@ good_names : (files : Files) (host before : ℕ) (dir : List ℕ) (refusal : Ref
 good_names files host before dir (TooLarge limit.Names) h is = few_and_many files dir is.few h
 good_names files host before dir (NoMetadata n) h is = there_and_not (files dir (codes "metadata")) is.there h.2
 good_names files host before dir TooManyEvents h is = h
+good_names files host before dir (NoThread n tid) h is = h
 good_names files host before dir (BadMetadata n cause) h is = h
 good_names files host before dir (BadList file line) h is = h
 good_names files host before dir (TooLarge limit.Hosts) h is = h
@@ -90,6 +95,7 @@ good_size before size (TooLarge limit.Files) h small all = absurd (omega (arith,
 good_size before size (TooLarge limit.Names) h small all = h
 good_size before size (NoMetadata n) h small all = h
 good_size before size TooManyEvents h small all = h
+good_size before size (NoThread n tid) h small all = h
 good_size before size (BadMetadata n cause) h small all = h
 good_size before size (BadList file line) h small all = h
 good_size before size (TooLarge limit.Hosts) h small all = h
@@ -108,6 +114,7 @@ good_host : (host : ℕ) (bytes : List ℕ) (refusal : Refusal) (t : Trace) → 
 good_host host bytes (BadMetadata n cause) t h is = not_refused bytes t cause is h.1
 good_host host bytes (NoMetadata n) t h is = h
 good_host host bytes TooManyEvents t h is = h
+good_host host bytes (NoThread n tid) t h is = h
 good_host host bytes (BadList file line) t h is = h
 good_host host bytes (TooLarge what) t h is = h
 
@@ -127,6 +134,7 @@ good_crowd folders (TooLarge limit.Questions) h few = h
 good_crowd folders (TooLarge limit.Packets) h few = h
 good_crowd folders (NoMetadata n) h few = h
 good_crowd folders TooManyEvents h few = h
+good_crowd folders (NoThread n tid) h few = h
 good_crowd folders (BadMetadata n cause) h few = h
 good_crowd folders (BadList file line) h few = h
 
@@ -145,6 +153,7 @@ good_stream before size (TooLarge limit.Metadata) h fits = h
 good_stream before size (TooLarge limit.Packets) h fits = h
 good_stream before size (TooLarge limit.Questions) h fits = h
 good_stream before size TooManyEvents h fits = h
+good_stream before size (NoThread n tid) h fits = h
 good_stream before size (NoMetadata n) h fits = h
 good_stream before size (BadMetadata n cause) h fits = h
 good_stream before size (BadList file line) h fits = h
@@ -175,6 +184,7 @@ good_limits hosts (TooLarge limit.Names) h few = h
 good_limits hosts (TooLarge limit.Metadata) h few = h
 good_limits hosts (TooLarge limit.Questions) h few = h
 good_limits hosts (NoMetadata n) h few = h
+good_limits hosts (NoThread n tid) h few = h
 good_limits hosts (BadMetadata n cause) h few = h
 good_limits hosts (BadList file line) h few = h
 
@@ -188,6 +198,15 @@ good_input : (source : Input) (files : Files) (refusal : Refusal) → InputRefus
 good_input (input.List file) files refusal h g = good_list (bytes_of files [] file) refusal h g.0 g.1
 good_input (input.Folders dirs drift) files refusal h g = good_cluster files dirs refusal h g
 
+-- a thread that an event names isn't refused
+good_thread : (merged : List Merged) (host tid : ℕ) (refusal : Refusal) → ThreadRefuses merged host tid refusal → IsNamed merged host tid → ⊥
+good_thread merged host tid (NoThread h t) refused named = refused.2 named
+good_thread merged host tid (NoMetadata n) refused named = refused
+good_thread merged host tid (BadMetadata n cause) refused named = refused
+good_thread merged host tid (BadList file line) refused named = refused
+good_thread merged host tid (TooLarge what) refused named = refused
+good_thread merged host tid TooManyEvents refused named = refused
+
 pub good : (c : PlainCommand) (files : Files) (refusal : Refusal) → Refuses c files refusal → IsGood c files → ⊥
 good (Check folders) files refusal h g = good_check files folders refusal h g
 good (Report folders drift) files refusal h g = good_cluster files folders refusal h g
@@ -195,6 +214,8 @@ good (Events folders drift) files refusal h g = good_cluster files folders refus
 good (State source at) files refusal h g = good_input source files refusal h g
 good (Ask source questions once) files refusal (inl h) g = good_input source files refusal h g.0
 good (Ask source questions once) files refusal (inr h) g = good_questions (bytes_of files [] questions) refusal h.1 g.1.0 g.1.1
+good (Path source host tid from to) files refusal (inl h) g = good_input source files refusal h g.0
+good (Path source host tid from to) files refusal (inr (merged, placed, is, h)) g = good_thread merged host tid refusal h (g.1 merged placed is)
 
 plain_complete : (command : PlainCommand) (seen : Seen) (status : Status) → PlainMeans command seen status → (files : Files) → seen.store.files ≡ Some files → IsGood command files → IsFaultless seen → (status ≡ Done) ⊎ (status ≡ NoMemory)
 plain_complete command seen Done m files e g f = inl refl

@@ -7,13 +7,16 @@ pub mod Complete
 pub mod Fails
 pub mod Left
 pub mod Texts
+pub mod PathTexts
 pub mod StreamsRead
 pub mod TraceFiles
+pub mod ReadFolders
 pub mod Clustered
 pub mod Alone
 pub mod OneAsking
 pub mod OneCluster
 pub mod OneSync
 pub mod OneReport
+pub mod OnePath
 pub mod OneText
 pub mod Told

@@ -7,13 +7,13 @@ use Rattle.ht_outside.specs.Files.{Files}
 use Rattle.trace_types.specs.declared.limits.TheConstants.{MAX_EVENTS}
 use Rattle.trace_types.specs.declared.event.Event.{Event}
 use Rattle.trace_types.specs.declared.host.HostEvents.{HostEvents}
-use Rattle.trace_types.specs.Paths.{place_of}
+use Rattle.trace_types.specs.Paths.{rank_of}
 use Rattle.trace_types.specs.declared.path.Path.{Path as AttributePath}
 use Rattle.trace_types.specs.declared.value.Value.{Value}
 use Rattle.stable_sort.specs.Sorted.{sorted}
 use Rattle.type_table.specs.SameTrace.{AreBoth, IsSameEvent, IsSameStream, IsSameTrace}
 use Rattle.type_table.specs.Table.{Table}
-use Rattle.type_table.specs.TraceMetas.{MetaParts}
+use Rattle.type_table.specs.TraceMetas.{TraceMetaModel}
 use Rattle.type_table.specs.declared.declared.EventId.{EventId}
 use Rattle.type_table.specs.declared.declared.EventParts.{EventParts}
 use Rattle.type_table.specs.declared.declared.StreamScopes.{StreamScopes}
@@ -72,7 +72,7 @@ events_both t u (d ∷ es) (f ∷ fs) e =
       events_both t u es fs later,
     )
 
-pub same_trace : (m n : MetaParts) → trace m ≡ trace n → IsSameTrace m n
+pub same_trace : (m n : TraceMetaModel) → trace m ≡ trace n → IsSameTrace m n
 unfolding trace
 same_trace m n e = record {
   header = ap (λ x. x.packet_header) e;
@@ -180,18 +180,18 @@ never_refused files dirs drift found s refusal h refused = good_cluster files di
 -- ---- one listing of a state
 
 not_both : (x y : Row) → IsBefore x y → IsBefore y x → x ≡ y
-not_both x y h g = by (slice_cmp nat_cmp (place_of x.path) (place_of y.path)) refl
+not_both x y h g = by (slice_cmp nat_cmp (rank_of x.path) (rank_of y.path)) refl
   where
-    by : (o : Ordering) → slice_cmp nat_cmp (place_of x.path) (place_of y.path) ≡ o → x ≡ y
-    by Less e = let is = sym g ∙ ap is_lt (nat_list_cmp_total.antisymm (place_of y.path) (place_of x.path) ∙ ap ordering_reverse e) in absurd (cc)
+    by : (o : Ordering) → slice_cmp nat_cmp (rank_of x.path) (rank_of y.path) ≡ o → x ≡ y
+    by Less e = let is = sym g ∙ ap is_lt (nat_list_cmp_total.antisymm (rank_of y.path) (rank_of x.path) ∙ ap ordering_reverse e) in absurd (cc)
     by Greater e = let is = sym h ∙ ap is_lt e in absurd (cc)
     by Equal e = let is = sym h ∙ ap is_lt e in absurd (cc)
 
 rows_apart : (rows : List Row) → AllPairs IsBefore rows → AllPairs (λ a b. a ≡ b → ⊥) rows
 rows_apart rows h i j d lt within e =
     let twice : IsBefore (slice_index_or rows i d) (slice_index_or rows i d) = subst (IsBefore (slice_index_or rows i d)) (sym e) (h i j d lt within) in
-    let is = sym twice ∙ ap is_lt (nat_list_cmp_total.antisymm (place_of (slice_index_or rows i d).path) (place_of (slice_index_or rows i d).path)) in
-    irreflexive (slice_cmp nat_cmp (place_of (slice_index_or rows i d).path) (place_of (slice_index_or rows i d).path)) twice is
+    let is = sym twice ∙ ap is_lt (nat_list_cmp_total.antisymm (rank_of (slice_index_or rows i d).path) (rank_of (slice_index_or rows i d).path)) in
+    irreflexive (slice_cmp nat_cmp (rank_of (slice_index_or rows i d).path) (rank_of (slice_index_or rows i d).path)) twice is
   where
     irreflexive : (o : Ordering) → is_lt o ≡ true → true ≡ is_lt (ordering_reverse o) → ⊥
     irreflexive Less a b = absurd (cc)

@@ -76,7 +76,7 @@ ambiguous_there xs ys key both h =
       unmatched = λ m is. h.unmatched m (message_there ys xs key m (same_back xs ys both) is);
     }
 
-messages_there : (xs ys : List HostEvents) (matched : List Message) (ambiguous : ℕ) → AreBoth IsSameHost xs ys → AreMessages ys matched ambiguous → AreMessages xs matched ambiguous
+pub messages_there : (xs ys : List HostEvents) (matched : List Message) (ambiguous : ℕ) → AreBoth IsSameHost xs ys → AreMessages ys matched ambiguous → AreMessages xs matched ambiguous
 messages_there xs ys matched ambiguous both h =
     let back = same_back xs ys both in
     record {

@@ -1,5 +1,5 @@
 -- A command has one text at most over given files. Where it has one they are good, and nothing refuses them.
-use Rattle.std.proofs.Common.{◌≡◌, ◌∙◌, ℕ, List, [], ◌∷◌, refl, sym, ap, ap₂, subst₂}
+use Rattle.std.proofs.Common.{◌≡◌, ◌∙◌, ℕ, List, [], ◌∷◌, refl, sym, ap, ap₂, subst, subst₂}
 use Rattle.std.specs.Prelude.{flat_map}
 use Rattle.ht_outside.specs.Files.{Files, bytes_of}
 use Rattle.type_scope.specs.Traces.{Trace}
@@ -13,19 +13,24 @@ use Rattle.report_views.specs.StateText.{IsStateText, row_text}
 use Rattle.command_words.specs.declared.command.Input.{Input}
 use Rattle.command_words.specs.declared.command.Input.TheVariants as input
 use Rattle.command_words.specs.declared.command.PlainCommand.{PlainCommand}
-use Rattle.command_words.specs.declared.command.PlainCommand.TheVariants.{Ask, Check, Events, Report, State}
+use Rattle.command_words.specs.declared.command.PlainCommand.TheVariants.{Ask, Check, Events, Path, Report, State}
+use Rattle.trace_types.specs.declared.event.Merged.{Merged}
 use Rattle.trace_types.specs.declared.host.HostEvents.{HostEvents}
+use Rattle.host_merge.specs.declared.placed.Placed.{Placed}
+use Rattle.wait_graph.specs.Named.{IsNamed}
 use Rattle.host_sync.specs.Laws.{IsOneAnswer}
 use Rattle.host_sync.specs.Synced.{Synced}
 use Rattle.hosttrace.specs.Clusters.{AreSyncedTraces, IsCluster, IsInput}
 use Rattle.hosttrace.specs.Hosts.{AreTraces, host_lines}
 use Rattle.hosttrace.specs.Means.{IsAskOutput, IsCheckOutput, IsEventsOutput, IsReportOutput, IsGood, IsGoodInput, IsOutput, IsStateOutput}
+use Rattle.hosttrace.specs.Paths.{IsPathOutput, IsPathText, IsPlacedInput}
 use Rattle.hosttrace.specs.Refusals.{Refuses}
 use Rattle.hosttrace.specs.declared.status.Refusal.{Refusal}
 use Rattle.hosttrace.proofs.Complete.{good}
 use Rattle.hosttrace.proofs.OneAsking.{one_asking}
 use Rattle.hosttrace.proofs.Clustered.{can_sync}
 use Rattle.hosttrace.proofs.OneCluster.{good_traces, one_found, one_listing}
+use Rattle.hosttrace.proofs.OnePath.{one_places, same_path_text}
 use Rattle.hosttrace.proofs.OneReport.{one_report}
 use Rattle.hosttrace.proofs.OneSync.{one_synced, same_names}
 
@@ -76,6 +81,21 @@ one_answers_text files source questions a b h g =
     ∙ (ap (λ qs. flat_map (asked_text (names_at g.trace.names.items) (state_at g.trace.events.items)) qs) asked
     ∙ sym g.is_text)))
 
+-- ---- one merge of an input with its messages
+
+one_placed_input : (files : Files) (source : Input) (merged others : List Merged) (placed again : List Placed) → IsPlacedInput source files merged placed → IsPlacedInput source files others again → (merged ≡ others) × (placed ≡ again)
+one_placed_input files (input.List file) merged others placed again h g =
+    let same = one_input files (input.List file) h.trace g.trace h.is_trace g.is_trace in
+    (h.merged_is ∙ (same.0 ∙ sym g.merged_is), one_places h.trace g.trace same.0 same.1 placed again h.places g.places)
+one_placed_input files (input.Folders dirs drift) merged others placed again h g =
+    let same = one_answer files dirs drift h.found g.found h.synced g.synced h.traces g.traces in
+    (h.merged_is ∙ (same.merged ∙ sym g.merged_is), h.placed_are ∙ (same.placed ∙ sym g.placed_are))
+
+one_path_text : (files : Files) (source : Input) (host tid from to : ℕ) (a b : List ℕ) → IsPathOutput files source host tid from to a → IsPathOutput files source host tid from to b → a ≡ b
+one_path_text files source host tid from to a b h g =
+    let same = one_placed_input files source h.merged g.merged h.placed g.placed h.is_input g.is_input in
+    same_path_text g.merged g.placed host tid from to g.is_merge a b (subst₂ (λ ms ps. IsPathText ms ps host tid from to a) same.0 same.1 h.path) g.path
+
 -- ---- one text of a check
 
 same_traces : (files : List (List ℕ)) (ts us : List Trace) → AreTraces files ts → AreTraces files us → ts ≡ us
@@ -95,6 +115,7 @@ one_text (Report folders drift) files a b h g = one_report_text files folders dr
 one_text (Events folders drift) files a b h g = one_events_text files folders drift a b h g
 one_text (State source at) files a b h g = one_state_text files source at a b h g
 one_text (Ask source questions once) files a b h g = one_answers_text files source questions a b h g
+one_text (Path source host tid from to) files a b h g = one_path_text files source host tid from to a b h g
 
 -- ---- files that have a text are good
 
@@ -102,12 +123,23 @@ good_input : (files : Files) (source : Input) (t : MergedTrace) → IsInput sour
 good_input files (input.List file) t h = (h.parsed_lines, h.is_list)
 good_input files (input.Folders dirs drift) t h = good_traces files dirs drift h.found h.synced h.traces
 
+good_placed : (files : Files) (source : Input) (merged : List Merged) (placed : List Placed) → IsPlacedInput source files merged placed → IsGoodInput source files
+good_placed files (input.List file) merged placed h = (h.is_trace.parsed_lines, h.is_trace.is_list)
+good_placed files (input.Folders dirs drift) merged placed h = good_traces files dirs drift h.found h.synced h.traces
+
+good_path : (files : Files) (source : Input) (host tid from to : ℕ) (text : List ℕ) → IsPathOutput files source host tid from to text → IsGood (Path source host tid from to) files
+good_path files source host tid from to text h = (
+  good_placed files source h.merged h.placed h.is_input,
+  (λ merged placed is. subst (λ ms. IsNamed ms host tid) (one_placed_input files source h.merged merged h.placed placed h.is_input is).0 h.path.named),
+)
+
 pub good_files : (command : PlainCommand) (files : Files) (text : List ℕ) → IsOutput command files text → IsGood command files
 good_files (Check folders) files text h = record { few = h.few; are_read = h.are_read; traces = h.traces; are_traces = h.are_traces }
 good_files (Report folders drift) files text h = good_traces files folders drift h.found h.synced h.traces
 good_files (Events folders drift) files text h = good_traces files folders drift h.found h.synced h.traces
 good_files (State source at) files text h = good_input files source h.trace h.is_input
 good_files (Ask source questions once) files text h = (good_input files source h.trace h.is_input, (h.asked, h.are_asked))
+good_files (Path source host tid from to) files text h = good_path files source host tid from to text h
 
 pub never_refused : (command : PlainCommand) (files : Files) (text : List ℕ) (refusal : Refusal) → IsOutput command files text → Refuses command files refusal → ⊥
 never_refused command files text refusal h refused = good command files refusal refused (good_files command files text h)

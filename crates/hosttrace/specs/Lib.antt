@@ -7,7 +7,9 @@ pub mod Folders
 pub mod Hosts
 pub mod Streams
 pub mod Read
+pub mod ReadFolders
 pub mod Clusters
+pub mod Paths
 pub mod Refusals
 pub mod Means
 pub mod Outcome

@@ -8,22 +8,26 @@ use Rattle.event_list.specs.declared.trace.MergedTrace.{MergedTrace}
 use Rattle.ht_outside.specs.Files.{Files, bytes_of}
 use Rattle.kernel_provider.specs.Replay.{state_at}
 use Rattle.type_scope.specs.Traces.{Trace}
+use Rattle.trace_types.specs.declared.event.Merged.{Merged}
 use Rattle.trace_types.specs.declared.host.HostEvents.{HostEvents}
 use Rattle.host_merge.specs.Kept.{KeepsOrder}
+use Rattle.host_merge.specs.declared.placed.Placed.{Placed}
 use Rattle.host_sync.specs.Laws.{names_of_hosts}
 use Rattle.host_sync.specs.Synced.{Synced}
 use Rattle.history_core.specs.declared.question.Question.{Question}
 use Rattle.report_views.specs.AnswersText.{asked_text}
 use Rattle.report_views.specs.Report.{report_text}
 use Rattle.report_views.specs.StateText.{IsStateText}
+use Rattle.wait_graph.specs.Named.{IsNamed}
 use Rattle.command_words.specs.declared.command.PlainCommand.{PlainCommand}
-use Rattle.command_words.specs.declared.command.PlainCommand.TheVariants.{Check, Report, Events, State, Ask}
+use Rattle.command_words.specs.declared.command.PlainCommand.TheVariants.{Check, Report, Events, State, Ask, Path}
 use Rattle.command_words.specs.declared.command.Input.{Input}
 use Rattle.command_words.specs.declared.command.Input.TheVariants as input
 use Rattle.hosttrace.specs.Clusters.{AreSyncedTraces, IsGoodCluster, IsInput, NoneInvertedInTrees, SendsFirst}
 use Rattle.hosttrace.specs.Folders.{MAX_HOSTS, AreRead, metadata_of}
 use Rattle.hosttrace.specs.Hosts.{AreTraces, host_lines}
 use Rattle.hosttrace.specs.Inputs.{IsList, AreAsked}
+use Rattle.hosttrace.specs.Paths.{IsPathOutput, IsPlacedInput}
 
 -- a line for each folder, with what all bytes of its metadata declare
 pub record IsCheckOutput (files : Files) (folders : List (List ℕ)) (text : List ℕ) : Type 0 where
@@ -86,6 +90,7 @@ IsOutput (Report folders drift) files text = IsReportOutput files folders drift 
 IsOutput (Events folders drift) files text = IsEventsOutput files folders drift text
 IsOutput (State source at) files text = IsStateOutput files source at text
 IsOutput (Ask source questions once) files text = IsAskOutput files source questions text
+IsOutput (Path source host tid from to) files text = IsPathOutput files source host tid from to text
 
 -- the files are good: the command has a text over them
 abbrev pub IsGood : PlainCommand → Files → Type 0
@@ -94,3 +99,4 @@ IsGood (Report folders drift) files = IsGoodCluster files folders
 IsGood (Events folders drift) files = IsGoodCluster files folders
 IsGood (State source at) files = IsGoodInput source files
 IsGood (Ask source questions once) files = IsGoodInput source files × ((asked : List Question) × AreAsked (bytes_of files [] questions) asked)
+IsGood (Path source host tid from to) files = IsGoodInput source files × ((merged : List Merged) (placed : List Placed) → IsPlacedInput source files merged placed → IsNamed merged host tid)

@@ -2,6 +2,7 @@
 use Rattle.std.specs.Prelude.{◌≡◌, ◌⊎◌, ℕ, ◌+◌, ◌<◌, ◌≤◌, List, [], ◌∷◌, length, map, count_by, codes, None}
 use Rattle.ht_outside.specs.Files.{Files, bytes_of}
 use Rattle.trace_types.specs.declared.limits.TheConstants.{MAX_EVENTS}
+use Rattle.trace_types.specs.declared.event.Merged.{Merged}
 use Rattle.type_scope.specs.Traces.{Trace}
 use Rattle.trace_metadata.specs.Files.{IsTrace, IsRefused}
 use Rattle.decode_pool.specs.Limits.{MAX_PACKETS, event_count, packet_count}
@@ -11,18 +12,21 @@ use Rattle.event_list.specs.declared.parsed_line.ParsedLine.{ParsedLine}
 use Rattle.history_core.specs.declared.question.Question.{Question}
 use Rattle.event_list.specs.declared.trace.MergedTrace.{MergedTrace}
 use Rattle.command_words.specs.declared.command.PlainCommand.{PlainCommand}
-use Rattle.command_words.specs.declared.command.PlainCommand.TheVariants.{Check, Report, Events, State, Ask}
+use Rattle.command_words.specs.declared.command.PlainCommand.TheVariants.{Check, Report, Events, State, Ask, Path}
 use Rattle.command_words.specs.declared.command.Input.{Input}
 use Rattle.command_words.specs.declared.command.Input.TheVariants as input
+use Rattle.host_merge.specs.declared.placed.Placed.{Placed}
+use Rattle.wait_graph.specs.Named.{IsNamed}
 use Rattle.hosttrace.specs.Clusters.{IsInput}
 use Rattle.hosttrace.specs.Folders.{FILES_LIMIT, MAX_HOSTS, METADATA_LIMIT, AreRead, HasFewNames, HasManyNames, HasMetadata, IsRead, metadata_of}
 use Rattle.hosttrace.specs.Inputs.{LIST_LIMIT}
+use Rattle.hosttrace.specs.Paths.{IsPlacedInput}
 use Rattle.hosttrace.specs.Questions.{QUESTION_LIMIT, is_feed, AreQuestions, IsFirstBadQuestion}
 use Rattle.hosttrace.specs.Streams.{AreFolders, AreHostsOf, AreStreamNames, IsFolder, StreamFits, folder_size, metadata_size, size_of}
 use Rattle.hosttrace.specs.declared.status.ListFile.TheVariants.{Events as EventsFile, Questions}
 use Rattle.hosttrace.specs.declared.status.Limit.TheVariants as limit
 use Rattle.hosttrace.specs.declared.status.Refusal.{Refusal}
-use Rattle.hosttrace.specs.declared.status.Refusal.TheVariants.{BadList, BadMetadata, NoMetadata, TooLarge, TooManyEvents}
+use Rattle.hosttrace.specs.declared.status.Refusal.TheVariants.{BadList, BadMetadata, NoMetadata, NoThread, TooLarge, TooManyEvents}
 
 -- ---- the folders' number
 
@@ -120,6 +124,13 @@ QuestionsRefuse bytes (TooLarge limit.File) = LIST_LIMIT < length bytes
 QuestionsRefuse bytes (TooLarge limit.Questions) = (length bytes ≤ LIST_LIMIT) × (QUESTION_LIMIT < count_by is_feed bytes)
 QuestionsRefuse bytes _ = ⊥
 
+-- ---- a thread
+
+-- no event of the merge names the thread
+abbrev pub ThreadRefuses : List Merged → ℕ → ℕ → Refusal → Type 0
+ThreadRefuses merged host tid (NoThread h t) = (h ≡ host) × (t ≡ tid) × ¬ IsNamed merged host tid
+ThreadRefuses merged host tid _ = ⊥
+
 -- ---- what commands read
 
 -- `check`: the folders are too many, or one is refused as its metadata is read, or, with all read, what one declares is
@@ -131,7 +142,7 @@ CheckRefuses files dirs refusal =
 abbrev pub ReadingRefuses : Files → List (List ℕ) → Refusal → Type 0
 ReadingRefuses files dirs refusal = TracesRefuse files 0 0 dirs refusal ⊎ (AreFolders files 0 dirs × HostsRefuse 0 (map (metadata_of files) dirs) refusal)
 
--- `report` and `events`, and `state` and `ask` over folders: the folders are too many, or their reading is refused, or, with all read, their hosts hold too much
+-- `report` and `events`, and `state`, `ask` and `path` over folders: the folders are too many, or their reading is refused, or, with all read, their hosts hold too much
 abbrev pub ClusterRefuses : Files → List (List ℕ) → Refusal → Type 0
 ClusterRefuses files dirs refusal =
     IsCrowd dirs refusal
@@ -139,7 +150,7 @@ ClusterRefuses files dirs refusal =
     × (ReadingRefuses files dirs refusal
     ⊎ ((hosts : List HostFiles) × AreHostsOf files dirs hosts × LimitsRefuse hosts refusal)))
 
--- `state` and `ask`: the list, or the folders
+-- `state`, `ask` and `path`: the list, or the folders
 abbrev pub InputRefuses : Input → Files → Refusal → Type 0
 InputRefuses (input.List file) files refusal = ListRefuses (bytes_of files [] file) refusal
 InputRefuses (input.Folders dirs drift) files refusal = ClusterRefuses files dirs refusal
@@ -148,6 +159,10 @@ InputRefuses (input.Folders dirs drift) files refusal = ClusterRefuses files dir
 abbrev pub AskRefuses : Files → Input → List ℕ → Refusal → Type 0
 AskRefuses files source questions refusal = InputRefuses source files refusal ⊎ (((trace : MergedTrace) × IsInput source files trace) × QuestionsRefuse (bytes_of files [] questions) refusal)
 
+-- `path`: the input, or after a good one the thread
+abbrev pub PathRefuses : Files → Input → ℕ → ℕ → Refusal → Type 0
+PathRefuses files source host tid refusal = InputRefuses source files refusal ⊎ ((merged : List Merged) × (placed : List Placed) × IsPlacedInput source files merged placed × ThreadRefuses merged host tid refusal)
+
 -- each command
 abbrev pub Refuses : PlainCommand → Files → Refusal → Type 0
 Refuses (Check folders) = λ files refusal. CheckRefuses files folders refusal
@@ -155,3 +170,4 @@ Refuses (Report folders drift) = λ files refusal. ClusterRefuses files folders 
 Refuses (Events folders drift) = λ files refusal. ClusterRefuses files folders refusal
 Refuses (State source at) = λ files refusal. InputRefuses source files refusal
 Refuses (Ask source questions once) = λ files refusal. AskRefuses files source questions refusal
+Refuses (Path source host tid from to) = λ files refusal. PathRefuses files source host tid refusal

@@ -10,7 +10,7 @@ use Rattle.event_list.specs.declared.list.ListError.TheVariants as list
 use Rattle.hosttrace.specs.declared.questions.QuestionsError.{QuestionsError}
 use Rattle.hosttrace.specs.declared.questions.QuestionsError.TheVariants as questions
 use Rattle.hosttrace.specs.declared.status.Refusal.{Refusal}
-use Rattle.hosttrace.specs.declared.status.Refusal.TheVariants.{NoMetadata, BadMetadata, BadList, TooLarge, TooManyEvents}
+use Rattle.hosttrace.specs.declared.status.Refusal.TheVariants.{NoMetadata, BadMetadata, BadList, TooLarge, TooManyEvents, NoThread}
 use Rattle.hosttrace.specs.declared.status.ListFile.TheVariants.{Events, Questions}
 use Rattle.hosttrace.specs.declared.status.Limit.{Limit}
 use Rattle.hosttrace.specs.declared.status.Limit.TheVariants as limit
@@ -41,6 +41,7 @@ refusal_text (BadList Events line) = codes "list line " ++ decimal line
 refusal_text (BadList Questions line) = codes "questions line " ++ decimal line
 refusal_text (TooLarge what) = codes "too large: " ++ limit_text what
 refusal_text TooManyEvents = codes "too many events"
+refusal_text (NoThread host tid) = codes "host " ++ decimal host ++ codes ": no thread " ++ decimal tid
 
 -- the line that tells a status; Done has none
 abbrev pub status_line : Status → List ℕ

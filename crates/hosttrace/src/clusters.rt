@@ -3,6 +3,7 @@ ghost use Rattle.std.specs.Prelude.{◌≡◌, ◌≤◌, length, map, IfOk, IfE
 ghost use Rattle.std.specs.List.{AllByRecursion};
 ghost use Rattle.command_words.specs.Words.{IsDrift};
 ghost use Rattle.history_core.specs.Agreement.{IsMerge};
+ghost use Rattle.trace_types.specs.declared.limits.TheConstants.{MAX_EVENTS};
 ghost use Rattle.decode_pool.specs.Limits.{AreHosts, HasSmallFiles};
 ghost use Rattle.host_sync.specs.Hosts.{synced_of};
 ghost use Rattle.host_sync.specs.Laws.{FilesAreNumbered};
@@ -10,15 +11,14 @@ ghost use Rattle.host_sync.specs.Synced.{IsSynced};
 ghost use Rattle.hosttrace.specs.Clusters.{AreSyncedTraces, IsCluster, IsSyncedCluster, IsWithinLimits};
 ghost use Rattle.report_views.specs.Report.{report_text};
 ghost use Rattle.hosttrace.specs.Folders.{MAX_HOSTS};
-ghost use Rattle.hosttrace.specs.Read.{AreDeclared, HasSmallStreams};
-ghost use Rattle.hosttrace.specs.Refusals.{ClusterRefuses, HostsRefuse, LimitsRefuse, ReadingRefuses};
+ghost use Rattle.hosttrace.specs.Refusals.{ClusterRefuses, LimitsRefuse, ReadingRefuses};
 ghost use Rattle.hosttrace.specs.Seen.{FailsBy, FailsOf, OnlyReads, store_seen};
 ghost use Rattle.hosttrace.specs.Streams.{AreHostsOf};
 
+use crate::declared::declared_hosts;
 use crate::folders::{is_crowd, too_large};
-use crate::hosts::read_host;
 use crate::status::{Limit, Refusal, Status};
-use crate::trace_files::{FolderFiles, read_trace_files};
+use crate::trace_files::read_trace_files;
 use decode_pool::{DecodeError, HostFiles, decode_all};
 use event_list::{MergedTrace, NameList};
 use host_sync::{SyncedHosts, synchronize};
@@ -50,10 +50,7 @@ pub fn read_merge<S: Store>(
     ensures reads { OnlyReads (store_seen S.holds S.faults store.old store.new) }
 {
     let cluster = read_cluster(threads, alloc, dirs, drift, store)?;
-    match merged_trace(alloc, cluster) {
-        Ok(trace) => Ok(trace),
-        Err(OutOfMemory) => Err(Status::NoMemory),
-    }
+    Ok(merged_trace(alloc, cluster)?)
 }
 
 /// The hosts of folders on one clock, by a drift in parts per million, or the status that tells why there are none.
@@ -68,18 +65,20 @@ pub fn read_cluster<S: Store>(
     ensures cluster { IfOk result (λ c. IfSome (S.holds store.old) (λ files. AreSyncedTraces files dirs.now drift c.hosts.items (synced_of c.synced))) }
     ensures synced { IfOk result (λ c. IsSyncedCluster c.hosts.items drift (synced_of c.synced)) }
     ensures merge { IfOk result (λ c. IsMerge c.synced.merged.items) }
+    ensures few { IfOk result (λ c. length c.synced.merged.items ≤ MAX_EVENTS) }
     ensures fails { IfErr result (λ status. FailsBy (λ files refusal. ClusterRefuses files dirs.now refusal) (store_seen S.holds S.faults store.old store.new) status) }
     ensures reads { OnlyReads (store_seen S.holds S.faults store.old store.new) }
 {
     if is_crowd(dirs) {
         return Err(too_large(Limit::Hosts));
     }
-    let hosts = read_host_files(alloc, dirs, store)?;
+    let hosts = read_host_files(threads, alloc, dirs, store)?;
     synced_hosts(threads, alloc, &hosts, drift)
 }
 
 // What the metadata of each folder declares, and its stream files.
 fn read_host_files<S: Store>(
+    threads: &(impl Threads + Sync),
     alloc: Global,
     dirs: &[Text],
     store: &mut S,
@@ -93,29 +92,7 @@ fn read_host_files<S: Store>(
     ensures reads { OnlyReads (store_seen S.holds S.faults store.old store.new) }
 {
     let read = read_trace_files(alloc, dirs, store)?;
-    declared_hosts(alloc, read)
-}
-
-// The hosts whose files were read, numbered from 0, or the status that tells of the first metadata that is refused.
-fn declared_hosts(alloc: Global, read: Vec<FolderFiles>) -> Result<Vec<HostFiles>, Status>
-    requires few { length read.items ≤ MAX_HOSTS }
-    requires small { AllByRecursion HasSmallStreams read.items }
-    ensures hosts { IfOk result (λ hosts. AreDeclared 0 read.items hosts.items) }
-    ensures small { IfOk result (λ hosts. AllByRecursion HasSmallFiles hosts.items) }
-    ensures fails { IfErr result (λ status. FailsOf (HostsRefuse 0 (map (λ r. r.metadata) read.items)) status) }
-{
-    let mut hosts = Vec::new(alloc);
-    let mut host = 0;
-    for folder in read {
-        let meta = read_host(alloc, host, folder.metadata.as_slice())?;
-        hosts.push(HostFiles {
-            host,
-            meta,
-            files: folder.streams,
-        })?;
-        host += 1;
-    }
-    Ok(hosts)
+    declared_hosts(threads, alloc, read)
 }
 
 // What the files of hosts hold, on one clock, or the status that tells that it is too much.
@@ -132,6 +109,7 @@ fn synced_hosts(
     ensures cluster { IfOk result (λ c. IsWithinLimits hosts.now × AreHosts hosts.now c.hosts.items × IsSynced c.hosts.items drift (synced_of c.synced)) }
     ensures synced { IfOk result (λ c. IsSyncedCluster c.hosts.items drift (synced_of c.synced)) }
     ensures merge { IfOk result (λ c. IsMerge c.synced.merged.items) }
+    ensures few { IfOk result (λ c. length c.synced.merged.items ≤ MAX_EVENTS) }
     ensures fails { IfErr result (λ status. FailsOf (LimitsRefuse hosts.now) status) }
 {
     let hosts = match decode_all(threads, alloc, hosts) {
@@ -140,10 +118,8 @@ fn synced_hosts(
         Err(DecodeError::TooManyEvents) => return Err(Status::Refused(Refusal::TooManyEvents)),
         Err(DecodeError::OutOfMemory) => return Err(Status::NoMemory),
     };
-    match synchronize(alloc, &hosts, drift) {
-        Ok(synced) => Ok(Cluster { hosts, synced }),
-        Err(OutOfMemory) => Err(Status::NoMemory),
-    }
+    let synced = synchronize(alloc, &hosts, drift)?;
+    Ok(Cluster { hosts, synced })
 }
 
 /// The report on a cluster.

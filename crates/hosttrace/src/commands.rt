@@ -11,6 +11,7 @@ use crate::clusters::{read_cluster, read_merge, report_of};
 use crate::folders::{is_crowd, read_folders};
 use crate::hosts::{check_text, read_hosts};
 use crate::inputs::{read_asked, read_input};
+use crate::paths::{Window, text_of_path};
 use crate::status::{Limit, Refusal, Status};
 use crate::status_line::write_status;
 use crate::writing::write_text;
@@ -19,7 +20,7 @@ use ht_outside::{Gate, Sink, SinkError, Store};
 use report_views::{answers_text, events_text, state_text};
 use std::alloc::Global;
 use std::thread::Threads;
-use trace_types::{OutOfMemory, Text};
+use trace_types::Text;
 
 /// Runs the command of the words after the program's name: its text goes to `out`, and for every
 /// status but `Done` a line goes to `err`.
@@ -113,6 +114,21 @@ fn text_of<S: Store>(
             questions,
             once: _,
         } => { text_of_ask(threads, alloc, input, questions, store) }
+        PlainCommand::Path {
+            input,
+            host,
+            tid,
+            from,
+            to,
+        } => {
+            let window = Window {
+                host: *host,
+                tid: *tid,
+                from: *from,
+                to: *to,
+            };
+            text_of_path(threads, alloc, input, window, store)
+        }
     }
 }
 
@@ -132,10 +148,7 @@ fn text_of_check<S: Store>(
     }
     let files = read_folders(alloc, folders, store)?;
     let metas = read_hosts(alloc, &files)?;
-    match check_text(alloc, &metas) {
-        Ok(text) => Ok(text),
-        Err(OutOfMemory) => Err(Status::NoMemory),
-    }
+    Ok(check_text(alloc, &metas)?)
 }
 
 // The report on the hosts of folders.
@@ -152,10 +165,7 @@ fn text_of_report<S: Store>(
     ensures reads { OnlyReads (store_seen S.holds S.faults store.old store.new) }
 {
     let cluster = read_cluster(threads, alloc, folders, drift, store)?;
-    match report_of(alloc, &cluster, drift) {
-        Ok(text) => Ok(text),
-        Err(OutOfMemory) => Err(Status::NoMemory),
-    }
+    Ok(report_of(alloc, &cluster, drift)?)
 }
 
 // All events of the traces of folders.
@@ -172,10 +182,7 @@ fn text_of_events<S: Store>(
     ensures reads { OnlyReads (store_seen S.holds S.faults store.old store.new) }
 {
     let trace = read_merge(threads, alloc, folders, drift, store)?;
-    match events_text(alloc, &trace) {
-        Ok(text) => Ok(text),
-        Err(OutOfMemory) => Err(Status::NoMemory),
-    }
+    Ok(events_text(threads, alloc, &trace)?)
 }
 
 // The state at an instant, of an input.
@@ -192,10 +199,7 @@ fn text_of_state<S: Store>(
     ensures reads { OnlyReads (store_seen S.holds S.faults store.old store.new) }
 {
     let trace = read_input(threads, alloc, input, store)?;
-    match state_text(alloc, &trace, at) {
-        Ok(text) => Ok(text),
-        Err(OutOfMemory) => Err(Status::NoMemory),
-    }
+    Ok(state_text(alloc, &trace, at)?)
 }
 
 // The answers to the questions of a file, of an input.
@@ -213,8 +217,5 @@ fn text_of_ask<S: Store>(
 {
     let trace = read_input(threads, alloc, input, store)?;
     let questions = read_asked(alloc, questions, store)?;
-    match answers_text(alloc, &trace, &questions) {
-        Ok(text) => Ok(text),
-        Err(OutOfMemory) => Err(Status::NoMemory),
-    }
+    Ok(answers_text(alloc, &trace, &questions)?)
 }

@@ -1,8 +1,8 @@
 //! What the metadata of hosts declares.
-ghost use Rattle.std.specs.Prelude.{◌≡◌, ◌++◌, ◌≤◌, ◌^◌, ◌<◌, length, map, IfOk, IfErr, OnOk};
+ghost use Rattle.std.specs.Prelude.{◌≡◌, ◌++◌, ◌≤◌, ◌^◌, ◌<◌, ℕ, List, Ok, length, map, IfOk, IfErr, OnOk};
 ghost use Rattle.type_scope.specs.Traces.{trace};
 ghost use Rattle.type_table.specs.TraceMetas.{IsSoundMeta};
-ghost use Rattle.trace_metadata.specs.Files.{IsTrace};
+ghost use Rattle.trace_metadata.specs.Files.{IsTrace, IsRefused, OnRefusal};
 ghost use Rattle.hosttrace.specs.Folders.{MAX_HOSTS};
 ghost use Rattle.hosttrace.specs.Hosts.{AreTraces, host_line, host_lines};
 ghost use Rattle.hosttrace.specs.Refusals.{HostsRefuse, MetadataRefuses};
@@ -35,7 +35,15 @@ pub fn read_host(alloc: Global, host: u32, bytes: &[u8]) -> Result<TraceMeta, St
     ensures sound { IfOk result IsSoundMeta }
     ensures fails { IfErr result (λ status. FailsOf (MetadataRefuses host bytes.now) status) }
 {
-    match read_metadata(alloc, bytes) {
+    host_meta(host, read_metadata(alloc, bytes))
+}
+
+/// What this host's metadata declares, or the status that tells why it is refused, from what reading it gave.
+pub fn host_meta(host: u32, read: Result<TraceMeta, MetadataError>) -> Result<TraceMeta, Status>
+    ensures meta { IfOk result (λ meta. read ≡ Ok meta) }
+    ensures fails { (bytes : List ℕ) → OnRefusal (IsRefused bytes) read → IfErr result (λ status. FailsOf (MetadataRefuses host bytes) status) }
+{
+    match read {
         Ok(meta) => Ok(meta),
         Err(MetadataError::Refused(cause)) => {
             Err(Status::Refused(Refusal::BadMetadata { host, cause }))

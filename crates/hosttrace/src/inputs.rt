@@ -8,6 +8,7 @@ ghost use Rattle.hosttrace.specs.Inputs.{LIST_LIMIT, IsListTrace, AreAsked};
 ghost use Rattle.hosttrace.specs.Clusters.{IsInput};
 ghost use Rattle.hosttrace.specs.Refusals.{FileRefuses, InputRefuses, ListRefuses, QuestionsRefuse};
 ghost use Rattle.hosttrace.specs.Seen.{FailsBy, OnlyReads, store_seen};
+ghost use Rattle.list_messages.specs.Places.{IsReadTrace};
 ghost use Rattle.report_views.specs.Asked.{IsQuestion};
 
 use crate::clusters::read_merge;
@@ -81,10 +82,15 @@ pub fn read_input<S: Store>(
     }
 }
 
-// The events of an event list, or the status that tells why there are none.
-fn read_events<S: Store>(alloc: Global, file: &Text, store: &mut S) -> Result<MergedTrace, Status>
+/// The events of an event list, or the status that tells why there are none.
+pub fn read_events<S: Store>(
+    alloc: Global,
+    file: &Text,
+    store: &mut S,
+) -> Result<MergedTrace, Status>
     ensures list { IfOk result (λ trace. IfSome (S.holds store.old) (λ files. IsListTrace (bytes_of files [] file.now) trace)) }
     ensures merge { IfOk result (λ trace. IsMerge trace.events.items) }
+    ensures read { IfOk result IsReadTrace }
     ensures fails { IfErr result (λ status. FailsBy (λ files refusal. ListRefuses (bytes_of files [] file.now) refusal) (store_seen S.holds S.faults store.old store.new) status) }
     ensures reads { OnlyReads (store_seen S.holds S.faults store.old store.new) }
 {

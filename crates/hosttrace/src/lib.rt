@@ -3,10 +3,12 @@
 
 mod clusters;
 mod commands;
+mod declared;
 mod folders;
 mod hosts;
 mod inputs;
 mod laws;
+mod paths;
 mod questions;
 mod reading;
 mod status;

@@ -4,6 +4,7 @@ ghost use Rattle.hosttrace.specs.Statuses.{code_of};
 
 use std::alloc::AllocFailed;
 use trace_metadata::MetaCause;
+use trace_types::OutOfMemory;
 
 /// A list that was read.
 #[derive(Clone, Copy, Debug, PartialEq, Eq)]
@@ -39,6 +40,8 @@ pub enum Refusal {
     BadList { file: ListFile, line: u64 },
     TooLarge { what: Limit },
     TooManyEvents,
+    /// No event of the host names the thread.
+    NoThread { host: u32, tid: u32 },
 }
 
 /// How a command ended.
@@ -63,6 +66,17 @@ impl<T: Drop> From<AllocFailed<T>> for Status {
     ghost from_gives = { λ _ status. status ≡ variant.NoMemory };
 
     fn from(_error: AllocFailed<T>) -> Status {
+        Status::NoMemory
+    }
+}
+
+impl From<OutOfMemory> for Status {
+    ghost use Rattle.std.specs.Prelude.{◌≡◌};
+    ghost use Rattle.hosttrace.specs.declared.status.Status.TheVariants as variant;
+
+    ghost from_gives = { λ _ status. status ≡ variant.NoMemory };
+
+    fn from(_error: OutOfMemory) -> Status {
         Status::NoMemory
     }
 }

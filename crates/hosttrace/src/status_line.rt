@@ -52,6 +52,7 @@ impl fmt::Display for Refusal {
             } => write!(f, "questions line {line}"),
             Refusal::TooLarge { what } => write!(f, "too large: {what}"),
             Refusal::TooManyEvents => f.write_str("too many events"),
+            Refusal::NoThread { host, tid } => write!(f, "host {host}: no thread {tid}"),
         }
     }
 }

@@ -28,6 +28,8 @@ mod many_events;
 #[cfg(test)]
 mod name_runs;
 #[cfg(test)]
+mod path_runs;
+#[cfg(test)]
 mod small_texts;
 #[cfg(test)]
 mod state_runs;

@@ -9,8 +9,8 @@ synchronize-requires-clause-hosts g c =
     let can = decoded_are_syncable c.args.hosts.now c.in-Ok.found.items c.in-Ok.ensures.hosts c.requires.numbered c.requires.few c.in-Ok.ensures.within.1 in
     search rules
 
-pub returns-in-Ok-synchronize-clause-synced : goal.returns-in-Ok-synchronize-clause-synced
-returns-in-Ok-synchronize-clause-synced g c =
+pub returns-clause-synced : goal.returns-clause-synced
+returns-clause-synced g c =
     let can = decoded_are_syncable c.args.hosts.now c.in-Ok.found.items c.in-Ok.ensures.hosts c.requires.numbered c.requires.few c.in-Ok.ensures.within.1 in
-    let synced : IsSynced c.in-Ok.found.items c.args.drift (synced_of c.in-Ok-synchronize.synced) = search rules in
+    let synced : IsSynced c.in-Ok.found.items c.args.drift (synced_of c.in_ok-synced.synced) = search rules in
     record { can = can; synced = synced }

@@ -18,3 +18,8 @@ returns-in_err-read_list-clause-fails g c =
 
 pub returns-clause-merge : goal.returns-clause-merge
 returns-clause-merge g c = is_merge c.deref.result.now c.in_ok-read_list.ensures.list.0 c.in_ok-read_list.field-0 c.in_ok-read_list.ensures.list.1 c.in_ok-read_list.ensures.list.2
+
+pub returns-clause-read : goal.returns-clause-read
+returns-clause-read g c =
+    let merge = is_merge c.deref.result.now c.in_ok-read_list.ensures.list.0 c.in_ok-read_list.field-0 c.in_ok-read_list.ensures.list.1 c.in_ok-read_list.ensures.list.2 in
+    record { rises = merge.rises; below = merge.below; few = c.in_ok-read_list.ensures.few; have_names = c.in_ok-read_list.ensures.hosts; few_hosts = c.in_ok-read_list.ensures.few_hosts }
