@@ -1,0 +1,6 @@
+pub mod Draws
+pub mod Acts
+pub mod Events
+pub mod Layout
+pub mod Metadata
+pub mod Folders
