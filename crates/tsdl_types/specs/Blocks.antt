@@ -19,7 +19,8 @@ use Rattle.type_table.specs.declared.meta.ScopeName.TheVariants.{PacketHeader, P
 use Rattle.type_table.specs.declared.declared.ClockRate.{ClockRate}
 use Rattle.type_table.specs.declared.declared.EventId.{EventId}
 use Rattle.type_scope.specs.declared.field_path.Use.TheVariants as used
-use Rattle.type_scope.specs.TypeScopes.{Step, Good, ◌>>=◌, ◌>>◌, pure, breaks, require, scope_set, with_deferred, with_scopes}
+use Rattle.type_scope.specs.TypeScopes.{Step, Good, ◌>>=◌, ◌>>◌, pure, breaks, require, with_deferred, with_scopes}
+use Rattle.type_table.specs.PerScope.{no_scopes, with_scope}
 use Rattle.type_scope.specs.References.{all_lead}
 use Rattle.type_scope.specs.Uses.{is_struct}
 use Rattle.type_scope.specs.Declaring.{has_clock, has_event, stream_of, scopes_begun, declaring, with_clock, with_event_named, with_hostname, with_stream, with_trace_read, with_uuid}
@@ -74,15 +75,15 @@ scope_given Event path = first_scope (
     ∷ (same_words path (codes "fields" ∷ []), EventFields) ∷ [])
 scope_given _ path = None
 
-abbrev pub nothing_written : Written
-nothing_written = record { packet_header = None; packet_context = None; event_header = None; stream_context = None; event_context = None; event_fields = None }
-
 -- the types that the entries of a block give its scopes
 abbrev pub written : BlockKind → List Entry → Written
-written Trace es = record { packet_header = tree_declared (two (codes "packet") (codes "header")) es; packet_context = None; event_header = None; stream_context = None; event_context = None; event_fields = None }
-written Stream es = record { packet_header = None; packet_context = tree_declared (two (codes "packet") (codes "context")) es; event_header = tree_declared (two (codes "event") (codes "header")) es; stream_context = tree_declared (two (codes "event") (codes "context")) es; event_context = None; event_fields = None }
-written Event es = record { packet_header = None; packet_context = None; event_header = None; stream_context = None; event_context = tree_declared (codes "context" ∷ []) es; event_fields = tree_declared (codes "fields" ∷ []) es }
-written _ es = nothing_written
+written Trace es = with_scope PacketHeader (tree_declared (two (codes "packet") (codes "header")) es) no_scopes
+written Stream es =
+    with_scope StreamContext (tree_declared (two (codes "event") (codes "context")) es)
+    (with_scope EventHeader (tree_declared (two (codes "event") (codes "header")) es)
+    (with_scope PacketContext (tree_declared (two (codes "packet") (codes "context")) es) no_scopes))
+written Event es = with_scope EventFields (tree_declared (codes "fields" ∷ []) es) (with_scope EventContext (tree_declared (codes "context" ∷ []) es) no_scopes)
+written _ es = no_scopes
 
 -- ---- values
 
@@ -232,7 +233,7 @@ declared_by order kind all stood path ty None = do
 declared_by order kind all stood path ty (Some scope) = do
   t ← used_as (fields_within MAX_BRACES (entry_context order kind all path)) (entry_context order kind all path) used.Alone ty
   require (is_struct t && not (is_again kind stood)) BadAttribute
-  λ k. Good (tt, with_scopes (scope_set scope t k.scopes) k)
+  λ k. Good (tt, with_scopes (with_scope scope (Some t) k.scopes) k)
 
 abbrev pub assigned_by : BlockKind → List Entry → Bool → Attr → Step (Unit {0})
 assigned_by kind all stood a =

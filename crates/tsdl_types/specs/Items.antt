@@ -22,14 +22,15 @@ use Rattle.type_scope.specs.Following.{or_else}
 use Rattle.type_scope.specs.Traces.{Trace as TraceDeclared, trace_of}
 use Rattle.type_rules.specs.Attributes.{trace_order_said}
 use Rattle.type_scope.specs.Said.{said}
-use Rattle.tsdl_types.specs.Blocks.{attrs_in, block_of, nothing_written}
+use Rattle.type_table.specs.PerScope.{no_scopes}
+use Rattle.tsdl_types.specs.Blocks.{attrs_in, block_of}
 use Rattle.type_table.specs.Names.{spaced}
 use Rattle.trace_types.specs.declared.limits.TheConstants.{MAX_BRACES}
 use Rattle.type_rules.specs.Typing.{fields_within, used_as}
 
 -- nothing of a block stands around a type of an item
 abbrev pub outside : ByteOrderKind → BlockContext
-outside order = record { order = order; reading = None; written = nothing_written }
+outside order = record { order = order; reading = None; written = no_scopes }
 
 unfoldable pub item_of : ByteOrderKind → Item → Step (Unit {0})
 item_of order (item.Alias ty words) = do

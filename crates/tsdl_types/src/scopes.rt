@@ -7,23 +7,35 @@ use crate::entries::is_two;
 use trace_types::Text;
 use tsdl_parser::{BlockKind, Entry, TypeTree};
 use type_scope::{Written, is_only};
+use type_table::ScopeName;
 
 /// The types that the entries of a block give its scopes.
 pub fn written(kind: BlockKind, entries: &[Entry]) -> Written<'_>
     ensures { result ≡ blocks.written kind entries.now }
 {
+    let nothing = Written::nothing();
     match kind {
-        BlockKind::Trace => Written::of_trace(tree_of_two(entries, b"packet", b"header")),
-        BlockKind::Stream => Written::of_stream(
-            tree_of_two(entries, b"packet", b"context"),
-            tree_of_two(entries, b"event", b"header"),
-            tree_of_two(entries, b"event", b"context"),
+        BlockKind::Trace => nothing.with(
+            ScopeName::PacketHeader,
+            tree_of_two(entries, b"packet", b"header"),
         ),
-        BlockKind::Event => Written::of_event(
-            tree_of_one(entries, b"context"),
-            tree_of_one(entries, b"fields"),
-        ),
-        _ => Written::nothing(),
+        BlockKind::Stream => nothing
+            .with(
+                ScopeName::PacketContext,
+                tree_of_two(entries, b"packet", b"context"),
+            )
+            .with(
+                ScopeName::EventHeader,
+                tree_of_two(entries, b"event", b"header"),
+            )
+            .with(
+                ScopeName::StreamContext,
+                tree_of_two(entries, b"event", b"context"),
+            ),
+        BlockKind::Event => nothing
+            .with(ScopeName::EventContext, tree_of_one(entries, b"context"))
+            .with(ScopeName::EventFields, tree_of_one(entries, b"fields")),
+        _ => nothing,
     }
 }
 

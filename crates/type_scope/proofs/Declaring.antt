@@ -4,18 +4,19 @@ use Rattle.std.specs.List.{AllByRecursion}
 use Rattle.std.specs.Map.{lookup}
 use Rattle.std.proofs.lemmas.List.{map-append}
 use Rattle.trace_types.specs.declared.memory.OutOfMemory.{OutOfMemory}
-use Rattle.type_scope.specs.declared.scope.ScopeIndices.{ScopeIndices}
+use Rattle.type_table.specs.declared.per_scope.PerScope.{PerScope}
+use Rattle.type_table.specs.PerScope.{with_scope}
+use Rattle.type_table.proofs.EachScope.{all_scopes_with, map_scopes_with}
 use Rattle.type_table.specs.declared.meta.ScopeName.{ScopeName}
-use Rattle.type_table.specs.declared.meta.ScopeName.TheVariants.{PacketHeader, PacketContext, EventHeader, StreamContext, EventContext, EventFields}
 use Rattle.type_table.specs.declared.declared.EventId.{EventId}
 use Rattle.type_table.specs.declared.declared.EventParts.{EventParts}
 use Rattle.type_table.specs.declared.declared.StreamScopes.{StreamScopes}
-use Rattle.type_scope.specs.TypeScopes.{Event, scope_set}
+use Rattle.type_scope.specs.TypeScopes.{Event}
 use Rattle.type_table.specs.Table.{Table, tree, trees}
 use Rattle.type_scope.specs.Declaring.{scopes_of}
 use Rattle.type_table.specs.TraceMetas.{DeclaredIndices, kept_event, kept_stream}
-use Rattle.type_scope.specs.View.{ScopesIn, event_at, indices_begun, indices_set, scopes_at, stream_at}
-use Rattle.type_table.specs.TraceMetas.{EventIn, StreamIn, DeclaredIn}
+use Rattle.type_scope.specs.View.{ScopesIn, event_at, indices_begun, scopes_at, stream_at}
+use Rattle.type_table.specs.TraceMetas.{EventIn, IfHere, IndexIn, StreamIn, DeclaredIn}
 use Rattle.type_table.proofs.Tables.{trees_count}
 use Rattle.type_scope.proofs.Views.{all_append}
 
@@ -78,26 +79,16 @@ stream_in t test (s ∷ ss) h = within_by (test s.0) t s (lookup test ss) h.0 (s
 there : (t : Table) (p : ℕ) → p < length (trees t) → p < length t.types
 there t p h = omega (arith, h, trees_count t.names t.types)
 
-pub scopes_set_in : (t : Table) (scope : ScopeName) (p : ℕ) (s : ScopeIndices) → p < length (trees t) → ScopesIn t s → ScopesIn t (indices_set scope p s)
-scopes_set_in t PacketHeader p s h all = record { packet_header = there t p h; packet_context = all.packet_context; event_header = all.event_header; stream_context = all.stream_context; event_context = all.event_context; event_fields = all.event_fields }
-scopes_set_in t PacketContext p s h all = record { packet_header = all.packet_header; packet_context = there t p h; event_header = all.event_header; stream_context = all.stream_context; event_context = all.event_context; event_fields = all.event_fields }
-scopes_set_in t EventHeader p s h all = record { packet_header = all.packet_header; packet_context = all.packet_context; event_header = there t p h; stream_context = all.stream_context; event_context = all.event_context; event_fields = all.event_fields }
-scopes_set_in t StreamContext p s h all = record { packet_header = all.packet_header; packet_context = all.packet_context; event_header = all.event_header; stream_context = there t p h; event_context = all.event_context; event_fields = all.event_fields }
-scopes_set_in t EventContext p s h all = record { packet_header = all.packet_header; packet_context = all.packet_context; event_header = all.event_header; stream_context = all.stream_context; event_context = there t p h; event_fields = all.event_fields }
-scopes_set_in t EventFields p s h all = record { packet_header = all.packet_header; packet_context = all.packet_context; event_header = all.event_header; stream_context = all.stream_context; event_context = all.event_context; event_fields = there t p h }
+pub scopes_set_in : (t : Table) (scope : ScopeName) (p : ℕ) (s : PerScope (Option ℕ)) → p < length (trees t) → ScopesIn t s → ScopesIn t (with_scope scope (Some p) s)
+scopes_set_in t scope p s h all = all_scopes_with (IfHere (IndexIn t)) scope (Some p) s (there t p h) all
 
-pub scopes_set_at : (t : Table) (scope : ScopeName) (p : ℕ) (s : ScopeIndices) → scopes_at t (indices_set scope p s) ≡ scope_set scope (tree t p) (scopes_at t s)
-scopes_set_at t PacketHeader p s = refl
-scopes_set_at t PacketContext p s = refl
-scopes_set_at t EventHeader p s = refl
-scopes_set_at t StreamContext p s = refl
-scopes_set_at t EventContext p s = refl
-scopes_set_at t EventFields p s = refl
+pub scopes_set_at : (t : Table) (scope : ScopeName) (p : ℕ) (s : PerScope (Option ℕ)) → scopes_at t (with_scope scope (Some p) s) ≡ with_scope scope (Some (tree t p)) (scopes_at t s)
+scopes_set_at t scope p s = map_scopes_with (option_map (tree t)) scope (Some p) s
 
-pub begun_in : (t : Table) (s : ScopeIndices) (o : Option StreamScopes) → ScopesIn t s → IfSome o (λ x. StreamIn t (0, x)) → ScopesIn t (indices_begun s o)
+pub begun_in : (t : Table) (s : PerScope (Option ℕ)) (o : Option StreamScopes) → ScopesIn t s → IfSome o (λ x. StreamIn t (0, x)) → ScopesIn t (indices_begun s o)
 begun_in t s None all h = record { packet_header = all.packet_header; packet_context = tt; event_header = tt; stream_context = tt; event_context = tt; event_fields = tt }
 begun_in t s (Some declared) all h = record { packet_header = all.packet_header; packet_context = h.0; event_header = h.1; stream_context = h.2; event_context = tt; event_fields = tt }
 
-pub begun_at : (t : Table) (s : ScopeIndices) (o : Option StreamScopes) → scopes_at t (indices_begun s o) ≡ scopes_of (scopes_at t s) (option_map (λ x. (stream_at t (0, x)).1) o)
+pub begun_at : (t : Table) (s : PerScope (Option ℕ)) (o : Option StreamScopes) → scopes_at t (indices_begun s o) ≡ scopes_of (scopes_at t s) (option_map (λ x. (stream_at t (0, x)).1) o)
 begun_at t s None = refl
 begun_at t s (Some declared) = refl

@@ -1,5 +1,5 @@
 -- Field paths that the end of a block decides on.
-use Rattle.std.proofs.Common.{◌≡◌, ◌++◌, List, [], ◌∷◌, map, length, ℕ, Option, sym, ap, ◌∙◌, subst, Result, Ok, Err, OnOk, OnErr}
+use Rattle.std.proofs.Common.{◌≡◌, ◌++◌, List, [], ◌∷◌, map, length, ℕ, ◌<◌, Option, Some, None, IfSome, sym, ap, ◌∙◌, subst, Result, Ok, Err, OnOk, OnErr}
 use Rattle.std.specs.List.{AllByRecursion}
 use Rattle.std.proofs.lemmas.List.{map-append}
 use Rattle.type_scope.specs.declared.scope.DeferredPath.{DeferredPath as DeferredKept}
@@ -8,7 +8,11 @@ use Rattle.type_table.specs.declared.meta.ScopeName.{ScopeName}
 use Rattle.type_scope.specs.TypeScopes.{Gives, State, sized}
 use Rattle.type_table.specs.Types.{Text, FieldPath, Fields, Sequence, Variant}
 use Rattle.type_table.specs.Table.{Table, AreBelow, tree_at, field_path_by, field_path_or_here}
-use Rattle.type_scope.specs.View.{DeferredIn, deferred_at}
+use Rattle.type_table.specs.TraceMetas.{IfHere, IndexIn}
+use Rattle.type_table.specs.declared.per_scope.PerScope.{PerScope}
+use Rattle.type_table.specs.PerScope.{of_scope}
+use Rattle.type_table.proofs.EachScope.{all_scopes_of}
+use Rattle.type_scope.specs.View.{DeferredIn, ScopesIn, deferred_at}
 use Rattle.type_scope.proofs.Views.{all_append}
 
 along : {A B : Type 0} (f : A → B) (x y : A) → x ≡ y → f x ≡ f y
@@ -36,3 +40,11 @@ pub gives_tagged : (old mid new : State) (v w : Option FieldPath) (fs gs : Field
 gives_tagged old mid new v w fs gs r stays field_path fields given =
     subst (λ g. Gives (sized (Variant w g) old.known) r new) fields
     (subst (λ x. Gives (sized (Variant x fs) old.known) r new) field_path (subst (λ s. Gives (sized (Variant v fs) s.known) r new) stays given))
+
+-- the type of a scope, if it has one, is there
+pub scope_there : (t : Table) (scope : ScopeName) (s : PerScope (Option ℕ)) → ScopesIn t s → IfSome (of_scope scope s) (λ p. p < length t.types)
+scope_there t scope s all = by (of_scope scope s) (all_scopes_of (IfHere (IndexIn t)) scope s all)
+  where
+    by : (o : Option ℕ) → IfHere (IndexIn t) o → IfSome o (λ p. p < length t.types)
+    by None h = tt
+    by (Some p) h = h

@@ -4,7 +4,8 @@ use Rattle.std.specs.List.{AllByRecursion}
 use Rattle.std.proofs.lemmas.List.{reverse-append}
 use Rattle.type_scope.specs.declared.scope.Frame.{Frame as FrameKept}
 use Rattle.type_scope.specs.declared.scope.DeferredPath.{DeferredPath as DeferredKept}
-use Rattle.type_scope.specs.declared.scope.ScopeIndices.{ScopeIndices}
+use Rattle.type_table.specs.declared.per_scope.PerScope.{PerScope}
+use Rattle.type_table.proofs.EachScope.{all_scopes_more, map_scopes_same}
 use Rattle.type_table.specs.declared.meta.FieldMeta.{FieldMeta}
 use Rattle.type_table.specs.Types.{Text, Ty}
 use Rattle.type_table.specs.Table.{Table, Keeps, name_at, tree, AreBelow, FieldsIn, FieldNamesIn}
@@ -109,24 +110,11 @@ module _ (old new : Table) (keeps : Keeps old new) where
   index_keeps : (o : Option ℕ) → IfHere (IndexIn old) o → option_map (tree new) o ≡ option_map (tree old) o
   index_keeps o h = here_same (tree new) (tree old) (IndexIn old) keeps.types o h
 
-  scopes_keep : (s : ScopeIndices) → ScopesIn old s → scopes_at new s ≡ scopes_at old s
-  scopes_keep s h =
-      along (λ x. record { packet_header = x; packet_context = option_map (tree new) s.packet_context; event_header = option_map (tree new) s.event_header; stream_context = option_map (tree new) s.stream_context; event_context = option_map (tree new) s.event_context; event_fields = option_map (tree new) s.event_fields }) _ _ (index_keeps s.packet_header h.packet_header)
-      ∙ along (λ x. record { packet_header = option_map (tree old) s.packet_header; packet_context = x; event_header = option_map (tree new) s.event_header; stream_context = option_map (tree new) s.stream_context; event_context = option_map (tree new) s.event_context; event_fields = option_map (tree new) s.event_fields }) _ _ (index_keeps s.packet_context h.packet_context)
-      ∙ along (λ x. record { packet_header = option_map (tree old) s.packet_header; packet_context = option_map (tree old) s.packet_context; event_header = x; stream_context = option_map (tree new) s.stream_context; event_context = option_map (tree new) s.event_context; event_fields = option_map (tree new) s.event_fields }) _ _ (index_keeps s.event_header h.event_header)
-      ∙ along (λ x. record { packet_header = option_map (tree old) s.packet_header; packet_context = option_map (tree old) s.packet_context; event_header = option_map (tree old) s.event_header; stream_context = x; event_context = option_map (tree new) s.event_context; event_fields = option_map (tree new) s.event_fields }) _ _ (index_keeps s.stream_context h.stream_context)
-      ∙ along (λ x. record { packet_header = option_map (tree old) s.packet_header; packet_context = option_map (tree old) s.packet_context; event_header = option_map (tree old) s.event_header; stream_context = option_map (tree old) s.stream_context; event_context = x; event_fields = option_map (tree new) s.event_fields }) _ _ (index_keeps s.event_context h.event_context)
-      ∙ along (λ x. record { packet_header = option_map (tree old) s.packet_header; packet_context = option_map (tree old) s.packet_context; event_header = option_map (tree old) s.event_header; stream_context = option_map (tree old) s.stream_context; event_context = option_map (tree old) s.event_context; event_fields = x }) _ _ (index_keeps s.event_fields h.event_fields)
+  scopes_keep : (s : PerScope (Option ℕ)) → ScopesIn old s → scopes_at new s ≡ scopes_at old s
+  scopes_keep s h = map_scopes_same (option_map (tree new)) (option_map (tree old)) (IfHere (IndexIn old)) index_keeps s h
 
-  scopes_rise : (s : ScopeIndices) → ScopesIn old s → ScopesIn new s
-  scopes_rise s h = record {
-    packet_header = index_rises s.packet_header h.packet_header;
-    packet_context = index_rises s.packet_context h.packet_context;
-    event_header = index_rises s.event_header h.event_header;
-    stream_context = index_rises s.stream_context h.stream_context;
-    event_context = index_rises s.event_context h.event_context;
-    event_fields = index_rises s.event_fields h.event_fields;
-  }
+  scopes_rise : (s : PerScope (Option ℕ)) → ScopesIn old s → ScopesIn new s
+  scopes_rise s h = all_scopes_more (IfHere (IndexIn old)) (IfHere (IndexIn new)) index_rises s h
 
   later_keeps : (ls : List DeferredKept) → AllByRecursion (DeferredIn old) ls → map (deferred_at new) ls ≡ map (deferred_at old) ls
   later_keeps ls h = map_same (deferred_at new) (deferred_at old) (DeferredIn old) (λ l in_old. along (λ ws. record { path_use = l.path_use; scope = l.scope; names = ws }) _ _ (words_keep l.words in_old)) ls h

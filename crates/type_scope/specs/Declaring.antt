@@ -5,6 +5,7 @@ use Rattle.std.specs.Map.{lookup}
 use Rattle.tsdl_parser.specs.Symbols.{is_text}
 use Rattle.type_table.specs.declared.declared.ClockRate.{ClockRate}
 use Rattle.type_table.specs.declared.declared.EventId.{EventId}
+use Rattle.type_table.specs.PerScope.{scopes_before}
 use Rattle.type_table.specs.TraceMetas.{same_event, with_name_of}
 use Rattle.type_table.specs.Types.{Text, Ty}
 use Rattle.type_scope.specs.TypeScopes.{Event, TypeScope, Scopes, Stream, Declared, Step, Good, with_declared}
@@ -49,12 +50,9 @@ with_event_named name id context fields t =
     (with_event_names (with_name_of name t.event_names) t)
 
 -- only the header of packets is read before a stream's scopes
-abbrev pub header_alone : Scopes → Scopes
-header_alone s = record { packet_header = s.packet_header; packet_context = None; event_header = None; stream_context = None; event_context = None; event_fields = None }
-
 abbrev pub scopes_of : Scopes → Option Stream → Scopes
-scopes_of s None = header_alone s
-scopes_of s (Some declared) = record { packet_header = s.packet_header; packet_context = declared.packet_context; event_header = declared.event_header; stream_context = declared.event_context; event_context = None; event_fields = None }
+scopes_of s None = scopes_before s.packet_header None None None
+scopes_of s (Some declared) = scopes_before s.packet_header declared.packet_context declared.event_header declared.event_context
 
 -- the scopes that can be read where a block begins, after those of this stream, if it is one's
 abbrev pub stream_if_any : Option ℕ → Declared → Option Stream

@@ -11,9 +11,10 @@ use Rattle.type_table.specs.Names.{names_said, same_name, scope_said}
 use Rattle.type_table.specs.Table.{field_path_by}
 use Rattle.type_table.specs.Types.{Text, FieldPath, Ty}
 use Rattle.type_scope.specs.Ahead.{may_lead}
-use Rattle.type_scope.specs.BlockContexts.{BlockContext, tree_of}
+use Rattle.type_scope.specs.BlockContexts.{BlockContext}
 use Rattle.type_scope.specs.Following.{follow, or_else, suits_if_any}
-use Rattle.type_scope.specs.TypeScopes.{Frame, TypeScope, DeferredPath, Scopes, Step, Good, pure, breaks, scope_type, with_deferred}
+use Rattle.type_scope.specs.TypeScopes.{Frame, TypeScope, DeferredPath, Scopes, Step, Good, pure, breaks, with_deferred}
+use Rattle.type_table.specs.PerScope.{of_scope}
 
 -- the nearest field of a name, which is the last
 abbrev pub nearest : Text → List (Text × Ty) → Option Ty
@@ -65,13 +66,13 @@ foreseen k path_use names (Some t) = if may_lead k path_use names t then Deferre
 -- into a scope that is read before; where its entry is still to come, the entry's text is looked at
 abbrev pub resolve_earlier : BlockContext → TypeScope → PathUse → ScopeName → List Text → Option Ty → Resolution
 resolve_earlier a k path_use scope names (Some ty) = verdict (suits_if_any path_use (follow (Some ty) names))
-resolve_earlier a k path_use scope names None = foreseen k path_use names (tree_of scope a.written)
+resolve_earlier a k path_use scope names None = foreseen k path_use names (of_scope scope a.written)
 
 abbrev pub resolve_scope : BlockContext → TypeScope → PathUse → ScopeName → List Text → Option ScopeName → Resolution
 resolve_scope a k path_use scope names None = Invalid
 resolve_scope a k path_use scope names (Some reading) =
     if nat_eq (rank scope) (rank reading) then verdict (suits_if_any path_use (from_outside (reverse k.frames) names))
-    else if nat_lt (rank scope) (rank reading) then resolve_earlier a k path_use scope names (scope_type scope k.scopes)
+    else if nat_lt (rank scope) (rank reading) then resolve_earlier a k path_use scope names (of_scope scope k.scopes)
     else Invalid
 
 abbrev pub resolve_here : List Frame → PathUse → List Text → Resolution
@@ -96,7 +97,7 @@ abbrev pub check_path : BlockContext → PathUse → List Text → Step (Unit {0
 check_path a path_use words = λ k. settled (resolve_from a k path_use (scope_said words) (names_said words)) path_use (scope_said words) (names_said words) k
 
 abbrev pub leads : Scopes → DeferredPath → Bool
-leads scopes l = suits_if_any l.path_use (follow (scope_type l.scope scopes) l.names)
+leads scopes l = suits_if_any l.path_use (follow (of_scope l.scope scopes) l.names)
 
 -- every field path that waited leads to what it may lead to
 abbrev pub all_lead : Scopes → List DeferredPath → Bool

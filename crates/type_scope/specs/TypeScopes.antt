@@ -7,7 +7,8 @@ use Rattle.type_table.specs.declared.cause.MetaItemCause.TheVariants.{UnknownTyp
 use Rattle.type_table.specs.declared.fault.Fault.{Fault}
 use Rattle.type_table.specs.declared.fault.Fault.TheVariants.{Breaks, OutOfMemory}
 use Rattle.type_table.specs.declared.meta.ScopeName.{ScopeName}
-use Rattle.type_table.specs.declared.meta.ScopeName.TheVariants.{PacketHeader, PacketContext, EventHeader, StreamContext, EventContext, EventFields}
+use Rattle.type_table.specs.declared.per_scope.PerScope.{PerScope}
+use Rattle.type_table.specs.PerScope.{no_scopes}
 use Rattle.type_table.specs.declared.names.NameKind.{NameKind}
 use Rattle.type_table.specs.declared.names.NameKind.TheVariants.{Alias, Struct, Variant, Enum}
 use Rattle.type_table.specs.declared.declared.ClockRate.{ClockRate}
@@ -27,29 +28,8 @@ pub record Frame : Type 0 where
   pub fields : List (Text × Ty)
 
 -- the types of the scopes that can be read before here
-pub record Scopes : Type 0 where
-  pub packet_header : Option Ty
-  pub packet_context : Option Ty
-  pub event_header : Option Ty
-  pub stream_context : Option Ty
-  pub event_context : Option Ty
-  pub event_fields : Option Ty
-
-abbrev pub scope_type : ScopeName → Scopes → Option Ty
-scope_type PacketHeader s = s.packet_header
-scope_type PacketContext s = s.packet_context
-scope_type EventHeader s = s.event_header
-scope_type StreamContext s = s.stream_context
-scope_type EventContext s = s.event_context
-scope_type EventFields s = s.event_fields
-
-abbrev pub scope_set : ScopeName → Ty → Scopes → Scopes
-scope_set PacketHeader ty s = record { packet_header = Some ty; packet_context = s.packet_context; event_header = s.event_header; stream_context = s.stream_context; event_context = s.event_context; event_fields = s.event_fields }
-scope_set PacketContext ty s = record { packet_header = s.packet_header; packet_context = Some ty; event_header = s.event_header; stream_context = s.stream_context; event_context = s.event_context; event_fields = s.event_fields }
-scope_set EventHeader ty s = record { packet_header = s.packet_header; packet_context = s.packet_context; event_header = Some ty; stream_context = s.stream_context; event_context = s.event_context; event_fields = s.event_fields }
-scope_set StreamContext ty s = record { packet_header = s.packet_header; packet_context = s.packet_context; event_header = s.event_header; stream_context = Some ty; event_context = s.event_context; event_fields = s.event_fields }
-scope_set EventContext ty s = record { packet_header = s.packet_header; packet_context = s.packet_context; event_header = s.event_header; stream_context = s.stream_context; event_context = Some ty; event_fields = s.event_fields }
-scope_set EventFields ty s = record { packet_header = s.packet_header; packet_context = s.packet_context; event_header = s.event_header; stream_context = s.stream_context; event_context = s.event_context; event_fields = Some ty }
+abbrev pub Scopes : Type 0
+Scopes = PerScope (Option Ty)
 
 -- a field path into a scope that is declared further on in the same block
 pub record DeferredPath : Type 0 where
@@ -93,7 +73,7 @@ pub record TypeScope : Type 0 where
   pub declared : Declared
 
 abbrev pub empty_scope : TypeScope
-empty_scope = record { aliases = []; structs = []; variants = []; enums = []; frames = []; scopes = record { packet_header = None; packet_context = None; event_header = None; stream_context = None; event_context = None; event_fields = None }; deferred = []; declared = nothing_declared }
+empty_scope = record { aliases = []; structs = []; variants = []; enums = []; frames = []; scopes = no_scopes; deferred = []; declared = nothing_declared }
 
 abbrev pub named : NameKind → TypeScope → List (Text × Ty)
 named Alias k = k.aliases

@@ -3,10 +3,9 @@ use Rattle.std.specs.Prelude.{ℕ, ◌<◌, List, [], ◌∷◌, ◌++◌, lengt
 use Rattle.std.specs.List.{AllByRecursion}
 use Rattle.type_scope.specs.declared.scope.Frame.{Frame as FrameKept}
 use Rattle.type_scope.specs.declared.scope.DeferredPath.{DeferredPath as DeferredKept}
-use Rattle.type_scope.specs.declared.scope.ScopeIndices.{ScopeIndices}
 use Rattle.type_table.specs.declared.meta.FieldMeta.{FieldMeta}
-use Rattle.type_table.specs.declared.meta.ScopeName.{ScopeName}
-use Rattle.type_table.specs.declared.meta.ScopeName.TheVariants.{PacketHeader, PacketContext, EventHeader, StreamContext, EventContext, EventFields}
+use Rattle.type_table.specs.declared.per_scope.PerScope.{PerScope}
+use Rattle.type_table.specs.PerScope.{AllScopes, map_scopes, scopes_before}
 use Rattle.type_table.specs.Types.{Text, Ty}
 use Rattle.type_table.specs.Table.{Table, name_at, tree, trees, AreBelow, FieldsIn, FieldNamesIn}
 use Rattle.type_table.specs.declared.declared.EventId.{EventId}
@@ -41,38 +40,17 @@ abbrev pub kept_outer : List FrameKept → List FrameKept
 kept_outer [] = []
 kept_outer (f ∷ fs) = fs
 
-abbrev pub scopes_at : Table → ScopeIndices → Scopes
-scopes_at t s = record {
-  packet_header = option_map (tree t) s.packet_header;
-  packet_context = option_map (tree t) s.packet_context;
-  event_header = option_map (tree t) s.event_header;
-  stream_context = option_map (tree t) s.stream_context;
-  event_context = option_map (tree t) s.event_context;
-  event_fields = option_map (tree t) s.event_fields;
-}
-
-abbrev pub index_of : ScopeName → ScopeIndices → Option ℕ
-index_of PacketHeader s = s.packet_header
-index_of PacketContext s = s.packet_context
-index_of EventHeader s = s.event_header
-index_of StreamContext s = s.stream_context
-index_of EventContext s = s.event_context
-index_of EventFields s = s.event_fields
-
-abbrev pub indices_set : ScopeName → ℕ → ScopeIndices → ScopeIndices
-indices_set PacketHeader p s = record { packet_header = Some p; packet_context = s.packet_context; event_header = s.event_header; stream_context = s.stream_context; event_context = s.event_context; event_fields = s.event_fields }
-indices_set PacketContext p s = record { packet_header = s.packet_header; packet_context = Some p; event_header = s.event_header; stream_context = s.stream_context; event_context = s.event_context; event_fields = s.event_fields }
-indices_set EventHeader p s = record { packet_header = s.packet_header; packet_context = s.packet_context; event_header = Some p; stream_context = s.stream_context; event_context = s.event_context; event_fields = s.event_fields }
-indices_set StreamContext p s = record { packet_header = s.packet_header; packet_context = s.packet_context; event_header = s.event_header; stream_context = Some p; event_context = s.event_context; event_fields = s.event_fields }
-indices_set EventContext p s = record { packet_header = s.packet_header; packet_context = s.packet_context; event_header = s.event_header; stream_context = s.stream_context; event_context = Some p; event_fields = s.event_fields }
-indices_set EventFields p s = record { packet_header = s.packet_header; packet_context = s.packet_context; event_header = s.event_header; stream_context = s.stream_context; event_context = s.event_context; event_fields = Some p }
+-- the types of the scopes whose indices these are
+abbrev pub scopes_at : Table → PerScope (Option ℕ) → Scopes
+scopes_at t s = map_scopes (option_map (tree t)) s
 
 abbrev pub deferred_at : Table → DeferredKept → DeferredPath
 deferred_at t l = record { path_use = l.path_use; scope = l.scope; names = map (name_at t.names) l.words }
 
-abbrev pub indices_begun : ScopeIndices → Option StreamScopes → ScopeIndices
-indices_begun s None = record { packet_header = s.packet_header; packet_context = None; event_header = None; stream_context = None; event_context = None; event_fields = None }
-indices_begun s (Some declared) = record { packet_header = s.packet_header; packet_context = declared.packet_context; event_header = declared.event_header; stream_context = declared.event_context; event_context = None; event_fields = None }
+-- the indices of what is read before the blocks of a stream, or before those of the trace
+abbrev pub indices_begun : PerScope (Option ℕ) → Option StreamScopes → PerScope (Option ℕ)
+indices_begun s None = scopes_before s.packet_header None None None
+indices_begun s (Some declared) = scopes_before s.packet_header declared.packet_context declared.event_header declared.event_context
 
 abbrev pub stream_at : Table → (ℕ × StreamScopes) → ℕ × Stream
 stream_at t s = (s.0, record { packet_context = option_map (tree t) s.1.packet_context; event_header = option_map (tree t) s.1.event_header; event_context = option_map (tree t) s.1.event_context })
@@ -91,7 +69,7 @@ pub record TypeScopeModel : Type 0 where
   pub variants : List (Text × ℕ)
   pub enums : List (Text × ℕ)
   pub frames : List FrameKept
-  pub scopes : ScopeIndices
+  pub scopes : PerScope (Option ℕ)
   pub deferred : List DeferredKept
   pub declared : DeclaredIndices
 
@@ -125,13 +103,9 @@ FrameIn t f = IfHere (λ n. n < length t.names) f.inner × FieldsIn (length t.ty
 abbrev pub FramesIn : Table → List FrameKept → Type 0
 FramesIn t fs = AllByRecursion (FrameIn t) fs
 
-pub record ScopesIn (t : Table) (s : ScopeIndices) : Type 0 where
-  pub packet_header : IfHere (IndexIn t) s.packet_header
-  pub packet_context : IfHere (IndexIn t) s.packet_context
-  pub event_header : IfHere (IndexIn t) s.event_header
-  pub stream_context : IfHere (IndexIn t) s.stream_context
-  pub event_context : IfHere (IndexIn t) s.event_context
-  pub event_fields : IfHere (IndexIn t) s.event_fields
+-- each scope that has a type has one of the table
+abbrev pub ScopesIn : Table → PerScope (Option ℕ) → Type 0
+ScopesIn t s = AllScopes (IfHere (IndexIn t)) s
 
 abbrev pub DeferredIn : Table → DeferredKept → Type 0
 DeferredIn t l = AreBelow (length t.names) l.words

@@ -1,113 +1,57 @@
 //! What stands around the types of a block.
-ghost use Rattle.std.specs.Prelude.{◌≡◌, None};
+ghost use Rattle.std.specs.Prelude.{◌≡◌};
 ghost use Rattle.std.specs.Option.{option_copied};
-ghost use Rattle.type_scope.specs.BlockContexts.{tree_of};
+ghost use Rattle.type_table.specs.PerScope.{no_scopes, of_scope, with_scope};
 
 use std::marker::Model;
 use trace_types::ByteOrderKind;
 use tsdl_parser::TypeTree;
-use type_table::ScopeName;
+use type_table::{PerScope, ScopeName};
 
 /// The types that the entries of a block give its scopes, as they are written.
 #[derive(Drop)]
 pub struct Written<'a> {
-    pub packet_header: Option<&'a TypeTree>,
-    pub packet_context: Option<&'a TypeTree>,
-    pub event_header: Option<&'a TypeTree>,
-    pub stream_context: Option<&'a TypeTree>,
-    pub event_context: Option<&'a TypeTree>,
-    pub event_fields: Option<&'a TypeTree>,
+    trees: PerScope<Option<&'a TypeTree>>,
 }
 
 impl<'a> Model for Written<'a> {
     ghost use Rattle.std.specs.Option.{option_copied};
     ghost use Rattle.std.specs.Coded.{codes};
     ghost use Rattle.tsdl_parser.specs.contracts.tree.TypeTree as tree;
+    ghost use Rattle.type_table.specs.PerScope.{map_scopes};
     ghost use Rattle.type_scope.specs.BlockContexts.{Written as SpecWritten};
 
     ghost Value = { SpecWritten };
 
     ghost coded = { Prim.hlevel (codes, tree.the_row.coded) };
 
-    ghost view = { λ w. record { packet_header = option_copied w.packet_header; packet_context = option_copied w.packet_context; event_header = option_copied w.event_header; stream_context = option_copied w.stream_context; event_context = option_copied w.event_context; event_fields = option_copied w.event_fields } };
+    ghost view = { λ w. map_scopes option_copied w.trees };
 }
 
 impl<'a> Written<'a> {
     /// No scope.
     pub fn nothing() -> Written<'a>
-        ensures { result ≡ record { packet_header = None; packet_context = None; event_header = None; stream_context = None; event_context = None; event_fields = None } }
+        ensures { result ≡ no_scopes }
     {
         Written {
-            packet_header: None,
-            packet_context: None,
-            event_header: None,
-            stream_context: None,
-            event_context: None,
-            event_fields: None,
+            trees: PerScope::none(),
         }
     }
 
-    /// In a block of the trace.
-    pub fn of_trace(packet_header: Option<&'a TypeTree>) -> Written<'a>
-        ensures { result ≡ record { packet_header = option_copied packet_header.entry; packet_context = None; event_header = None; stream_context = None; event_context = None; event_fields = None } }
+    /// With this type for a scope, if it is given one.
+    pub fn with(self, scope: ScopeName, tree: Option<&'a TypeTree>) -> Written<'a>
+        ensures { result ≡ with_scope scope (option_copied tree.entry) self.entry }
     {
-        Written {
-            packet_header,
-            packet_context: None,
-            event_header: None,
-            stream_context: None,
-            event_context: None,
-            event_fields: None,
-        }
-    }
-
-    /// In a block of a stream.
-    pub fn of_stream(
-        packet_context: Option<&'a TypeTree>,
-        event_header: Option<&'a TypeTree>,
-        stream_context: Option<&'a TypeTree>,
-    ) -> Written<'a>
-        ensures { result ≡ record { packet_header = None; packet_context = option_copied packet_context.entry; event_header = option_copied event_header.entry; stream_context = option_copied stream_context.entry; event_context = None; event_fields = None } }
-    {
-        Written {
-            packet_header: None,
-            packet_context,
-            event_header,
-            stream_context,
-            event_context: None,
-            event_fields: None,
-        }
-    }
-
-    /// In a block of an event.
-    pub fn of_event(
-        event_context: Option<&'a TypeTree>,
-        event_fields: Option<&'a TypeTree>,
-    ) -> Written<'a>
-        ensures { result ≡ record { packet_header = None; packet_context = None; event_header = None; stream_context = None; event_context = option_copied event_context.entry; event_fields = option_copied event_fields.entry } }
-    {
-        Written {
-            packet_header: None,
-            packet_context: None,
-            event_header: None,
-            stream_context: None,
-            event_context,
-            event_fields,
-        }
+        let mut trees = self.trees;
+        trees.set(scope, tree);
+        Written { trees }
     }
 
     /// The type of a scope.
     pub fn tree_of(&self, scope: ScopeName) -> Option<&'a TypeTree>
-        ensures { option_copied result ≡ tree_of scope self.now }
+        ensures { option_copied result ≡ of_scope scope self.now }
     {
-        match scope {
-            ScopeName::PacketHeader => self.packet_header,
-            ScopeName::PacketContext => self.packet_context,
-            ScopeName::EventHeader => self.event_header,
-            ScopeName::StreamContext => self.stream_context,
-            ScopeName::EventContext => self.event_context,
-            ScopeName::EventFields => self.event_fields,
-        }
+        *self.trees.of(scope)
     }
 }
 
@@ -163,7 +107,7 @@ impl<'a> BlockContext<'a> {
 
     /// The type that the block gives a scope.
     pub fn tree_of(&self, scope: ScopeName) -> Option<&'a TypeTree>
-        ensures { option_copied result ≡ tree_of scope self.now.written }
+        ensures { option_copied result ≡ of_scope scope self.now.written }
     {
         self.written.tree_of(scope)
     }

@@ -2,7 +2,7 @@
 ghost use Rattle.std.specs.Prelude.{◌≡◌, ◌<◌, ◌∷◌, [], None, Some, length, IfOk, OnOk, IfSome, IfNone};
 ghost use Rattle.type_scope.specs.TypeScopes.{Gives, empty_scope, sized, type_named, with_name};
 ghost use Rattle.type_table.specs.Table.{IsBased, IsSound, Keeps, NamesIn, RefersIn, name_at, shape, tree_at, trees};
-ghost use Rattle.type_scope.specs.View.{index_of, indices_set, state, with_table};
+ghost use Rattle.type_scope.specs.View.{state, with_table};
 
 mod ahead;
 mod built;
@@ -20,7 +20,7 @@ use sqlite_items::Items;
 use std::alloc::Global;
 use std::marker::Model;
 use trace_types::{OutOfMemory, Text};
-use type_table::{Declared, Fault, FieldMeta, NameKind, ScopeName, Table, TypeMeta};
+use type_table::{Declared, Fault, FieldMeta, NameKind, PerScope, ScopeName, Table, TypeMeta};
 
 /// A structure or a variant that is being read: its fields so far, and the number of the name of the one
 /// whose structure is read now, if it is one.
@@ -29,49 +29,6 @@ pub struct Frame {
     pub is_struct: bool,
     pub inner: Option<u32>,
     pub fields: Items<FieldMeta>,
-}
-
-/// The indices of the scopes' types.
-#[derive(Clone, Copy)]
-pub struct ScopeIndices {
-    pub packet_header: Option<u32>,
-    pub packet_context: Option<u32>,
-    pub event_header: Option<u32>,
-    pub stream_context: Option<u32>,
-    pub event_context: Option<u32>,
-    pub event_fields: Option<u32>,
-}
-
-impl ScopeIndices {
-    /// With this type for a scope.
-    pub fn with(self, scope: ScopeName, index: u32) -> ScopeIndices
-        ensures { result ≡ indices_set scope index self }
-    {
-        let mut indices = self;
-        match scope {
-            ScopeName::PacketHeader => indices.packet_header = Some(index),
-            ScopeName::PacketContext => indices.packet_context = Some(index),
-            ScopeName::EventHeader => indices.event_header = Some(index),
-            ScopeName::StreamContext => indices.stream_context = Some(index),
-            ScopeName::EventContext => indices.event_context = Some(index),
-            ScopeName::EventFields => indices.event_fields = Some(index),
-        }
-        indices
-    }
-
-    /// The index of a scope's type.
-    pub fn of(self, scope: ScopeName) -> Option<u32>
-        ensures { result ≡ index_of scope self }
-    {
-        match scope {
-            ScopeName::PacketHeader => self.packet_header,
-            ScopeName::PacketContext => self.packet_context,
-            ScopeName::EventHeader => self.event_header,
-            ScopeName::StreamContext => self.stream_context,
-            ScopeName::EventContext => self.event_context,
-            ScopeName::EventFields => self.event_fields,
-        }
-    }
 }
 
 /// A field path into a scope that is declared further on in the same block. The words are numbers of names.
@@ -92,7 +49,7 @@ pub struct TypeScope {
     enums: NameMap,
     // the innermost last
     frames: Items<Frame>,
-    scopes: ScopeIndices,
+    scopes: PerScope<Option<u32>>,
     deferred: Items<DeferredPath>,
     declared: Declared,
 }
@@ -120,14 +77,7 @@ impl TypeScope {
             variants: NameMap::new(alloc),
             enums: NameMap::new(alloc),
             frames: Items::new(alloc),
-            scopes: ScopeIndices {
-                packet_header: None,
-                packet_context: None,
-                event_header: None,
-                stream_context: None,
-                event_context: None,
-                event_fields: None,
-            },
+            scopes: PerScope::none(),
             deferred: Items::new(alloc),
             declared: Declared::new(alloc),
         }

@@ -1,4 +1,5 @@
 pub mod Aligned
+pub mod EachScope
 pub mod KnownSizes
 pub mod Keeping
 pub mod Rates

@@ -2,6 +2,7 @@ pub mod Causes
 pub mod TypeSizes
 pub mod Faults
 pub mod Names
+pub mod PerScope
 pub mod SameTrace
 pub mod Table
 pub mod TraceMetas

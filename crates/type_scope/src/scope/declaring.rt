@@ -1,20 +1,21 @@
 //! What blocks add to what they declared, with types that are there.
-ghost use Rattle.std.specs.Prelude.{◌≡◌, ◌<◌, [], None, OnOk, IfSome, false, is_some, length, option_map};
+ghost use Rattle.std.specs.Prelude.{◌≡◌, ◌<◌, [], None, OnOk, IfSome, Some, false, is_some, length, option_map};
 ghost use Rattle.std.specs.Map.{lookup};
 ghost use Rattle.tsdl_parser.specs.Symbols.{is_text};
-ghost use Rattle.type_scope.specs.TypeScopes.{scope_set, with_deferred, with_scopes, with_declared};
+ghost use Rattle.type_scope.specs.TypeScopes.{with_deferred, with_scopes, with_declared};
+ghost use Rattle.type_table.specs.PerScope.{with_scope};
 ghost use Rattle.type_scope.specs.References.{all_lead};
 ghost use Rattle.type_table.specs.Table.{tree, tree_at};
 ghost use Rattle.type_scope.specs.Declaring.{has_clock, has_event, scopes_begun, stream_if_any, stream_of, with_clock, with_event_named, with_hostname, with_stream, with_trace_read, with_uuid};
 ghost use Rattle.type_scope.specs.View.{ScopesIn, indices_begun, scopes_at, state, stream_at};
 ghost use Rattle.type_table.specs.TraceMetas.{IfHere, IsRate, IndexIn, StreamIn};
 
+use crate::scope::TypeScope;
 use crate::scope::references::all_lead;
-use crate::scope::{ScopeIndices, TypeScope};
 use sqlite_items::Items;
 use std::alloc::Global;
 use trace_types::{OutOfMemory, Text};
-use type_table::{ClockRate, EventId, EventParts, ScopeName, StreamScopes};
+use type_table::{ClockRate, EventId, EventParts, PerScope, ScopeName, StreamScopes};
 
 impl TypeScope {
     /// Adds a stream of a new id.
@@ -134,7 +135,7 @@ impl TypeScope {
 
     /// The indices of the scopes' types.
     #[tactic(auto, unfolding(crate::specs::View::state))]
-    pub fn scopes(&self) -> ScopeIndices
+    pub fn scopes(&self) -> PerScope<Option<u32>>
         ensures types { scopes_at self.now.table result ≡ (state self.now).known.scopes }
         ensures there { ScopesIn self.now.table result }
     {
@@ -145,9 +146,9 @@ impl TypeScope {
     #[tactic(auto, unfolding(crate::specs::View::state), using(crate::proofs::Declaring::scopes_set_in, crate::proofs::Declaring::scopes_set_at))]
     pub fn set_scope(&mut self, scope: ScopeName, index: u32)
         requires { index < length (state self.old).types }
-        ensures { (state self.new).known ≡ with_scopes (scope_set scope (tree_at (state self.old).types index) (state self.old).known.scopes) (state self.old).known }
+        ensures { (state self.new).known ≡ with_scopes (with_scope scope (Some (tree_at (state self.old).types index)) (state self.old).known.scopes) (state self.old).known }
     {
-        self.scopes = self.scopes.with(scope, index);
+        self.scopes.set(scope, Some(index));
     }
 
     /// The scopes of the stream of an id.
@@ -177,17 +178,11 @@ impl TypeScope {
 }
 
 // The scopes of packets' headers and of a stream.
-fn begun(indices: ScopeIndices, stream: Option<StreamScopes>) -> ScopeIndices
+fn begun(indices: PerScope<Option<u32>>, stream: Option<StreamScopes>) -> PerScope<Option<u32>>
     ensures { result ≡ indices_begun indices stream }
 {
-    let mut begun = ScopeIndices {
-        packet_header: indices.packet_header,
-        packet_context: None,
-        event_header: None,
-        stream_context: None,
-        event_context: None,
-        event_fields: None,
-    };
+    let mut begun = PerScope::none();
+    begun.packet_header = indices.packet_header;
     if let Some(stream) = stream {
         begun.packet_context = stream.packet_context;
         begun.event_header = stream.event_header;

@@ -1,6 +1,7 @@
 //! Types with field paths to their tags and lengths, and the field paths themselves.
 ghost use Rattle.std.specs.Prelude.{◌≡◌, ◌<◌, length, map, IfOk, OnOk};
-ghost use Rattle.type_scope.specs.TypeScopes.{Does, Gives, fields_inside, scope_type, sized};
+ghost use Rattle.type_scope.specs.TypeScopes.{Does, Gives, fields_inside, sized};
+ghost use Rattle.type_table.specs.PerScope.{of_scope};
 ghost use Rattle.type_scope.specs.References.{resolve_from, resolve_earlier, check_path, settled, field_path_said};
 ghost use Rattle.type_table.specs.Table.{AreBelow, FieldNamesIn, FieldsIn, fields_at, name_at, tree_at, trees, field_path_or_here};
 ghost use Rattle.type_table.specs.Types.{Sequence, Variant};
@@ -68,9 +69,9 @@ impl TypeScope {
         names: &[u32],
     ) -> Result<Resolution, OutOfMemory>
         requires { AreBelow (length self.now.table.names) names.now }
-        ensures { IfOk result (λ said. said ≡ resolve_earlier block_context.now (state self.now).known path_use scope (map (name_at self.now.table.names) names.now) (scope_type scope (state self.now).known.scopes)) }
+        ensures { IfOk result (λ said. said ≡ resolve_earlier block_context.now (state self.now).known path_use scope (map (name_at self.now.table.names) names.now) (of_scope scope (state self.now).known.scopes)) }
     {
-        match (self.scopes.of(scope), block_context.tree_of(scope)) {
+        match (*self.scopes.of(scope), block_context.tree_of(scope)) {
             (Some(index), _) if leads_from(&self.table, path_use, index, names) => {
                 Ok(Resolution::Resolved)
             }

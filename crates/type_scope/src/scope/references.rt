@@ -7,8 +7,8 @@ ghost use Rattle.type_scope.specs.View.{FrameIn, FramesIn, ScopesIn, frame_at, r
 ghost use Rattle.type_table.specs.TraceMetas.{IfHere};
 
 use crate::field_path::{PathUse, Resolution};
-use crate::scope::{DeferredPath, Frame, ScopeIndices};
-use type_table::{FieldMeta, ScopeName, Table, TypeMeta, is_same_name};
+use crate::scope::{DeferredPath, Frame};
+use type_table::{FieldMeta, PerScope, ScopeName, Table, TypeMeta, is_same_name};
 
 // Whether a tag or a length may be of this type.
 fn suits(table: &Table, path_use: PathUse, index: u32) -> bool
@@ -199,7 +199,7 @@ pub fn rank(scope: ScopeName) -> u8
 }
 
 /// Whether each field path leads to what it may lead to, where these scopes can be read.
-pub fn all_lead(table: &Table, scopes: ScopeIndices, deferred: &[DeferredPath]) -> bool
+pub fn all_lead(table: &Table, scopes: PerScope<Option<u32>>, deferred: &[DeferredPath]) -> bool
     requires scopes { ScopesIn table.now scopes }
     requires deferred { AllDeferredIn table.now deferred.now }
     ensures { result ≡ all_lead (scopes_at table.now scopes) (map (deferred_at table.now) deferred.now) }
@@ -212,14 +212,14 @@ pub fn all_lead(table: &Table, scopes: ScopeIndices, deferred: &[DeferredPath]) 
     true
 }
 
-fn leads(table: &Table, scopes: ScopeIndices, field_path: &DeferredPath) -> bool
+fn leads(table: &Table, scopes: PerScope<Option<u32>>, field_path: &DeferredPath) -> bool
     requires scopes { ScopesIn table.now scopes }
     requires field_path { DeferredIn table.now field_path.now }
     ensures { result ≡ leads (scopes_at table.now scopes) (deferred_at table.now field_path.now) }
 {
     match follow(
         table,
-        scopes.of(field_path.scope),
+        *scopes.of(field_path.scope),
         field_path.words.as_slice(),
     ) {
         Some(index) => suits(table, field_path.path_use, index),
