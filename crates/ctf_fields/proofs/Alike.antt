@@ -1,12 +1,13 @@
 -- Fields that are read by two tables and stand for the same: the same values, names and types, each at indices of its own table.
 use Rattle.std.proofs.Common.{◌≡◌, ℕ, ℤ, ◌<◌, List, [], ◌∷◌, Option, Some, None, length}
 use Rattle.type_table.specs.Table.{Table, tree, name_at}
+use Rattle.type_table.proofs.EachScope.{BothScopes}
 use Rattle.ctf_fields.specs.declared.open_struct.OpenStruct.{OpenStruct}
-use Rattle.ctf_fields.specs.declared.open_struct.Scopes.{Scopes}
 use Rattle.ctf_fields.specs.declared.field.Field.{Field, out-Field}
 use Rattle.ctf_fields.specs.declared.field.Field.TheOpen.{Field-F}
 use Rattle.ctf_fields.specs.declared.field.Member.{Member}
 use Rattle.ctf_fields.specs.Reading.{Reads, Got, Fails}
+use Rattle.ctf_fields.specs.Fields.{Scopes}
 
 -- indices of one type
 pub record SameType (t u : Table) (a b : ℕ) : Type 0 where
@@ -58,13 +59,9 @@ AlikeOpenStructs t u [] [] = Unit {0}
 AlikeOpenStructs t u (a ∷ more) (b ∷ others) = (AlikeNames t u a.name b.name × AlikeMembers t u a.fields b.fields) × AlikeOpenStructs t u more others
 AlikeOpenStructs t u _ _ = ⊥
 
-pub record AlikeScopes (t u : Table) (s r : Scopes) : Type 0 where
-  pub packet_header : AlikeIf t u s.packet_header r.packet_header
-  pub packet_context : AlikeIf t u s.packet_context r.packet_context
-  pub event_header : AlikeIf t u s.event_header r.event_header
-  pub stream_context : AlikeIf t u s.stream_context r.stream_context
-  pub event_context : AlikeIf t u s.event_context r.event_context
-  pub event_fields : AlikeIf t u s.event_fields r.event_fields
+-- of the scopes that were read before
+abbrev pub AlikeScopes : Table → Table → Scopes → Scopes → Type 0
+AlikeScopes t u s r = BothScopes (AlikeIf t u) s r
 
 -- two readings end at one bit with values of which this holds, or fail for one cause
 abbrev pub ReadBoth : {A B : Type 0} → (A → B → Type 0) → Reads A → Reads B → Type 0

@@ -6,12 +6,11 @@ use Rattle.type_table.specs.Table.{Table, name_at}
 use Rattle.type_table.specs.Types.{Text}
 use Rattle.type_table.specs.declared.meta.Reference.{Reference}
 use Rattle.type_table.specs.declared.meta.ScopeName.{ScopeName}
-use Rattle.type_table.specs.declared.meta.ScopeName.TheVariants.{PacketHeader, PacketContext, EventHeader, StreamContext, EventContext, EventFields}
-use Rattle.ctf_fields.specs.Fields.{field_by, field_of, follow, from_here, from_inside, from_outside, from_scope, is_entered, member, member_of, nearest, number_in, number_of, or_else, same, scope_field}
+use Rattle.type_table.proofs.EachScope.{both_scopes_of}
+use Rattle.ctf_fields.specs.Fields.{Scopes, field_by, field_of, follow, from_here, from_inside, from_outside, from_scope, is_entered, member, member_of, nearest, number_in, number_of, or_else, same}
 use Rattle.ctf_fields.specs.Named.{Within, first_at, first_by, first_in, first_member, first_named, last_at, last_by, last_in, last_member, last_named}
 use Rattle.ctf_fields.specs.Values.{number_named, value_named}
 use Rattle.ctf_fields.specs.declared.open_struct.OpenStruct.{OpenStruct}
-use Rattle.ctf_fields.specs.declared.open_struct.Scopes.{Scopes}
 use Rattle.ctf_fields.specs.declared.field.Field.{Field, out-Field}
 use Rattle.ctf_fields.specs.declared.field.Field.TheOpen.{Field-F}
 use Rattle.ctf_fields.specs.declared.field.Member.{Member}
@@ -147,20 +146,11 @@ from_scope_alike t u (Some f) (Some g) open_structs others alike here words = fo
 from_scope_alike t u None (Some g) open_structs others alike here words = absurd alike
 from_scope_alike t u (Some f) None open_structs others alike here words = absurd alike
 
--- each scope has fields that are alike
-pub scope_alike : (t u : Table) (s r : Scopes) (scope : ScopeName) → AlikeScopes t u s r → AlikeIf t u (scope_field scope s) (scope_field scope r)
-scope_alike t u s r PacketHeader alike = alike.packet_header
-scope_alike t u s r PacketContext alike = alike.packet_context
-scope_alike t u s r EventHeader alike = alike.event_header
-scope_alike t u s r StreamContext alike = alike.stream_context
-scope_alike t u s r EventContext alike = alike.event_context
-scope_alike t u s r EventFields alike = alike.event_fields
-
 -- a field path from a scope, or from none, leads to fields that are alike
 by_alike : (t u : Table) (s r : Scopes) (open_structs others : List OpenStruct) (scope : Option ScopeName) {ws vs : List ℕ} → AlikeScopes t u s r → AlikeOpenStructs t u open_structs others → SameWords t u ws vs
     → AlikeIf t u (field_by t.names s open_structs scope ws) (field_by u.names r others scope vs)
 by_alike t u s r open_structs others None alike here words = from_here_alike t u open_structs others here words
-by_alike t u s r open_structs others (Some scope) alike here words = from_scope_alike t u _ _ open_structs others (scope_alike t u s r scope alike) here words
+by_alike t u s r open_structs others (Some scope) alike here words = from_scope_alike t u _ _ open_structs others (both_scopes_of (AlikeIf t u) scope s r alike) here words
 
 -- the same reference leads to fields that are alike
 pub field_alike : (t u : Table) (s r : Scopes) (open_structs others : List OpenStruct) (field_path path : Reference) → AlikeScopes t u s r → AlikeOpenStructs t u open_structs others → SameReference t u field_path path

@@ -8,11 +8,10 @@ use Rattle.type_table.specs.declared.meta.LabelMeta.{LabelMeta}
 use Rattle.type_table.specs.declared.meta.Reference.{Reference}
 use Rattle.type_table.specs.declared.meta.TypeMeta.{TypeMeta}
 use Rattle.ctf_fields.specs.Choice.{by_label, by_labels, chosen, first_named}
-use Rattle.ctf_fields.specs.Fields.{fields_of, or_else, same, with_member}
+use Rattle.ctf_fields.specs.Fields.{Scopes, fields_of, or_else, same, with_member}
 use Rattle.ctf_fields.specs.Leaves.{integer_read, text_read}
 use Rattle.ctf_fields.specs.Reading.{Fails, SourceModel, Got, Inner, MAX_TYPE_DEPTH, Reads, align_at, as_read, leaf, length_of, number_at, read, read_by, read_choice, read_item, read_items, read_list, read_member, read_members, read_number, read_sequence, read_struct, scope_read, then_read}
 use Rattle.ctf_fields.specs.declared.open_struct.OpenStruct.{OpenStruct}
-use Rattle.ctf_fields.specs.declared.open_struct.Scopes.{Scopes}
 use Rattle.ctf_fields.specs.declared.field.Field.{Field}
 use Rattle.ctf_fields.specs.declared.field.Field.TheBlock.{shown-the_row-Field-1}
 use Rattle.ctf_fields.specs.declared.field.Field.TheOpen.{Field-F}

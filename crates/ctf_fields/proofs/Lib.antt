@@ -8,3 +8,4 @@ pub mod Aligned
 pub mod SameTypes
 pub mod Steps
 pub mod Zeros
+pub mod Passing

@@ -5,12 +5,16 @@ use Rattle.type_table.specs.Table.{name_at}
 use Rattle.type_table.specs.Types.{Text}
 use Rattle.type_table.specs.declared.meta.Reference.{Reference}
 use Rattle.type_table.specs.declared.meta.ScopeName.{ScopeName}
-use Rattle.type_table.specs.declared.meta.ScopeName.TheVariants.{PacketHeader, PacketContext, EventHeader, StreamContext, EventContext, EventFields}
+use Rattle.type_table.specs.declared.per_scope.PerScope.{PerScope}
+use Rattle.type_table.specs.PerScope.{of_scope}
 use Rattle.ctf_fields.specs.declared.open_struct.OpenStruct.{OpenStruct}
-use Rattle.ctf_fields.specs.declared.open_struct.Scopes.{Scopes}
 use Rattle.ctf_fields.specs.declared.field.Field.{Field, out-Field}
 use Rattle.ctf_fields.specs.declared.field.Field.TheOpen.{Field-F}
 use Rattle.ctf_fields.specs.declared.field.Member.{Member}
+
+-- the fields of the scopes that were read before
+abbrev pub Scopes : Type 0
+Scopes = PerScope (Option Field)
 
 abbrev pub or_else : {A : Type 0} → Option A → Option A → Option A
 or_else (Some a) b = Some a
@@ -52,14 +56,6 @@ abbrev pub outer : List OpenStruct → List OpenStruct
 outer [] = []
 outer (a ∷ more) = more
 
-abbrev pub scope_field : ScopeName → Scopes → Option Field
-scope_field PacketHeader s = s.packet_header
-scope_field PacketContext s = s.packet_context
-scope_field EventHeader s = s.event_header
-scope_field StreamContext s = s.stream_context
-scope_field EventContext s = s.event_context
-scope_field EventFields s = s.event_fields
-
 -- the field of a name of the innermost structure that has one
 abbrev pub from_inside : List Text → ℕ → List OpenStruct → Option Field
 from_inside names name [] = None
@@ -93,7 +89,7 @@ from_scope names None open_structs words = from_outside names (reverse open_stru
 -- where a field path leads, with the structures that are being read, the innermost first
 abbrev pub field_by : List Text → Scopes → List OpenStruct → Option ScopeName → List ℕ → Option Field
 field_by names scopes open_structs None words = from_here names open_structs words
-field_by names scopes open_structs (Some scope) words = from_scope names (scope_field scope scopes) open_structs words
+field_by names scopes open_structs (Some scope) words = from_scope names (of_scope scope scopes) open_structs words
 
 abbrev pub field_of : List Text → Scopes → List OpenStruct → Reference → Option Field
 field_of names scopes open_structs field_path = field_by names scopes open_structs field_path.scope field_path.words

@@ -10,13 +10,12 @@ use Rattle.type_table.specs.declared.meta.Reference.{Reference}
 use Rattle.type_table.specs.declared.meta.TypeMeta.{TypeMeta}
 use Rattle.type_table.specs.declared.meta.TypeMeta.TheVariants as meta
 use Rattle.ctf_fields.specs.declared.open_struct.OpenStruct.{OpenStruct}
-use Rattle.ctf_fields.specs.declared.open_struct.Scopes.{Scopes}
 use Rattle.ctf_fields.specs.declared.error.FieldError.{FieldError}
 use Rattle.ctf_fields.specs.declared.error.FieldError.TheVariants.{ShortContent, NoVariant, TooLong, OutOfMemory}
 use Rattle.ctf_fields.specs.declared.field.Field.{Field}
 use Rattle.ctf_fields.specs.declared.field.Field.TheVariants as field
 use Rattle.ctf_fields.specs.Choice.{chosen}
-use Rattle.ctf_fields.specs.Fields.{field_of, fields_of, number_of, with_member}
+use Rattle.ctf_fields.specs.Fields.{Scopes, field_of, fields_of, number_of, with_member}
 use Rattle.ctf_fields.specs.Leaves.{integer_read, text_read}
 
 -- a value that was read, and the bit after it; or why it couldn't be

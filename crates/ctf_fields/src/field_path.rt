@@ -36,7 +36,7 @@ fn field_of<'a>(
     let Some(scope) = field_path.scope else {
         return from_here(table, open_structs, words);
     };
-    match scopes.of(scope) {
+    match scopes.of(scope).as_ref() {
         Some(field) => follow(table, Some(field), words),
         None => from_outside(table, open_structs, words),
     }

@@ -5,6 +5,7 @@ mod choice;
 mod error;
 mod field;
 mod field_path;
+mod fixed;
 mod id_and_timestamp;
 mod leaves;
 mod named;
@@ -21,6 +22,7 @@ mod values;
 
 pub use error::FieldError;
 pub use field::{Field, Member};
+pub use fixed::{FixedSize, fixed_sizes, size_at, skip_fixed};
 pub use id_and_timestamp::{LastAndFirst, last_and_first};
 pub use leaves::{read_integer, read_text};
 pub use named::{first_named, last_named};

@@ -1,39 +1,14 @@
 //! What a tag or a length may lead to: the scopes that were read, and the structures that are being read.
 ghost use Rattle.std.specs.Prelude.{◌≡◌, [], reverse};
-ghost use Rattle.ctf_fields.specs.Fields.{fields_of, outer, scope_field};
-ghost use Rattle.std.specs.Option.{option_copied};
+ghost use Rattle.ctf_fields.specs.Fields.{fields_of, outer};
 
 use crate::field::{Field, Member};
 use sqlite_items::Items;
 use std::alloc::Global;
-use type_table::ScopeName;
+use type_table::PerScope;
 
 /// The fields of the scopes that were read before.
-#[derive(Debug, Drop)]
-pub struct Scopes {
-    pub packet_header: Option<Field>,
-    pub packet_context: Option<Field>,
-    pub event_header: Option<Field>,
-    pub stream_context: Option<Field>,
-    pub event_context: Option<Field>,
-    pub event_fields: Option<Field>,
-}
-
-impl Scopes {
-    /// The field of a scope.
-    pub fn of(&self, scope: ScopeName) -> Option<&Field>
-        ensures { option_copied result ≡ scope_field scope self.now }
-    {
-        match scope {
-            ScopeName::PacketHeader => self.packet_header.as_ref(),
-            ScopeName::PacketContext => self.packet_context.as_ref(),
-            ScopeName::EventHeader => self.event_header.as_ref(),
-            ScopeName::StreamContext => self.stream_context.as_ref(),
-            ScopeName::EventContext => self.event_context.as_ref(),
-            ScopeName::EventFields => self.event_fields.as_ref(),
-        }
-    }
-}
+pub type Scopes = PerScope<Option<Field>>;
 
 /// A structure that is being read: its name, where it is a field of the structure around it, and its fields so far.
 #[derive(Drop)]

@@ -12,7 +12,7 @@ use crate::field_path::number_at;
 use crate::leaves::{read_integer, read_text};
 use crate::open_struct::{OpenStruct, Scopes};
 use crate::span::BitSpan;
-use crate::types::{integer_of, integer_type, type_at};
+use crate::types::{align_at, integer_of, integer_type, type_at};
 use std::alloc::Global;
 use std::marker::Model;
 use type_table::{Integer, Reference, Table, TypeMeta};
@@ -104,11 +104,7 @@ impl<'a> Source<'a> {
         ensures said { result ≡ align_at self.now.table index }
         ensures aligns { (1 ≤ result) × (65536 % result ≡ 0) }
     {
-        if (index as usize) < self.table.len() {
-            self.table.type_size(index).align
-        } else {
-            8
-        }
+        align_at(self.table, index)
     }
 
     /// The number that a field path leads to, with the index of its type.

@@ -1,8 +1,8 @@
 //! Types by their indices.
-ghost use Rattle.std.specs.Prelude.{◌≡◌, IfSome, Some, slice_get};
+ghost use Rattle.std.specs.Prelude.{◌≡◌, ◌≤◌, ◌%◌, IfSome, Some, slice_get};
 ghost use Rattle.std.specs.Option.{option_copied};
 ghost use Rattle.ctf_fields.specs.Leaves.{IsReadable};
-ghost use Rattle.ctf_fields.specs.Reading.{integer_of, integer_type};
+ghost use Rattle.ctf_fields.specs.Reading.{align_at, integer_of, integer_type};
 ghost use Rattle.type_table.specs.Table.{IsSound};
 
 use type_table::{Integer, Table, TypeMeta};
@@ -51,5 +51,17 @@ pub fn integer_type(table: &Table, index: u32) -> Option<Integer>
     match type_at(table, index)? {
         TypeMeta::Enum { base, .. } => integer_of(type_at(table, *base)?),
         meta => integer_of(meta),
+    }
+}
+
+/// What the type at an index is aligned to.
+pub fn align_at(table: &Table, index: u32) -> u32
+    ensures said { result ≡ align_at table.now index }
+    ensures aligns { (1 ≤ result) × (65536 % result ≡ 0) }
+{
+    if (index as usize) < table.len() {
+        table.type_size(index).align
+    } else {
+        8
     }
 }

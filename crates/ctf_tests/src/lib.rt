@@ -34,4 +34,6 @@ mod stream_kinds;
 #[cfg(test)]
 mod stream_packets;
 #[cfg(test)]
+mod stream_skips;
+#[cfg(test)]
 mod stream_times;

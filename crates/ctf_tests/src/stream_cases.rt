@@ -129,7 +129,8 @@ fn write_counter(word: &str, counter: Option<Counter>, out: &mut Vec<u8>) -> io:
     }
 }
 
-fn write_events(meta: &TraceMeta, events: &[RawEvent], out: &mut Vec<u8>) -> io::Result<()> {
+/// A line for each event: its time, its processor, its index among those that are declared, and its fields.
+pub fn write_events(meta: &TraceMeta, events: &[RawEvent], out: &mut Vec<u8>) -> io::Result<()> {
     for event in events {
         write!(out, "{} {} {} ", event.time, event.cpu, event.event)?;
         write_field(meta, &event.fields, out)?;

@@ -3,11 +3,12 @@ use Rattle.std.proofs.Common.{◌≡◌, ℕ, ℤ, pos, negsuc, zero, suc, ◌<�
 use Rattle.std.specs.Prelude.{◌&&◌, ◌==◌, ◌+◌, ◌*◌, nat_eq, nat_le, not, drop, unwrap_or}
 use Rattle.std.specs.List.{AllByRecursion}
 use Rattle.std.proofs.lemmas.Bool.{leb-true}
+use Rattle.type_table.specs.PerScope.{with_scope}
 use Rattle.type_table.specs.TraceMetas.{TraceMetaModel}
+use Rattle.type_table.specs.declared.meta.ScopeName.TheVariants.{EventHeader}
 use Rattle.trace_types.specs.declared.event.Event.{Event}
 use Rattle.trace_types.specs.declared.cause.Cause.{Cause}
 use Rattle.trace_types.specs.declared.cause.Cause.TheVariants as cause
-use Rattle.ctf_fields.specs.declared.open_struct.Scopes.{Scopes}
 use Rattle.ctf_fields.specs.declared.field.Field.{Field}
 use Rattle.ctf_fields.specs.declared.raw.RawEvent.{RawEvent}
 use Rattle.packet_decoder.specs.declared.events.Cursor.{Cursor}
@@ -20,7 +21,7 @@ use Rattle.packet_decoder.specs.declared.piece.Piece.TheVariants as piece
 use Rattle.packet_decoder.specs.declared.times.Timestamp.{Timestamp}
 use Rattle.packet_decoder.specs.PacketHeads.{and_then, packet_head}
 use Rattle.packet_decoder.specs.Times.{clock_after, clock_of, in_range, rate_of, time_of, time_after}
-use Rattle.packet_decoder.specs.Events.{PacketModel, as_packet, cleared, decoded, event, event_added, event_body, event_head, event_timed, events_from, field_or_none, packet_events, with_event_header, within}
+use Rattle.packet_decoder.specs.Events.{PacketModel, as_packet, cleared, decoded, event, event_added, event_body, event_head, event_timed, events_from, field_or_none, packet_events, within}
 use Rattle.decode_pool.specs.declared.decoded_packet.AcceptedPacket.{AcceptedPacket}
 use Rattle.decode_pool.specs.declared.decoded_packet.DecodedPacket.{DecodedPacket}
 use Rattle.decode_pool.specs.declared.decoded_packet.DecodedPacket.TheVariants as part
@@ -37,6 +38,7 @@ use Rattle.ctf_fields.specs.Values.{below_if_any, value_named}
 use Rattle.type_table.specs.Table.{Table}
 use Rattle.host_sync.proofs.KindRanges.{Fits, kind_fits}
 use Rattle.host_sync.proofs.Ranges.{lies}
+use Rattle.ctf_fields.specs.Fields.{Scopes}
 
 abbrev pub InTime : ℕ → Type 0
 InTime t = (1 ≤ t) × (t < 2 ^ 62)
@@ -85,7 +87,7 @@ one_ranged : (w : PacketModel) (s : Scopes) (c : Cursor) (r : RawEvent × Cursor
 unfolding event
 one_ranged w s c r e =
     let head = made (event_head w s c.at) _ r e in
-    let body = made (event_body w (with_event_header head.0.header s) head.0.parts head.0.at) _ r head.2 in
+    let body = made (event_body w (with_scope EventHeader head.0.header s) head.0.parts head.0.at) _ r head.2 in
     event_ranged w c head.0 body.0.0 body.0.1 r body.2
 
 all_both : {A : Type 0} (P : A → Type 0) (xs ys : List A) → AllByRecursion P xs → AllByRecursion P ys → AllByRecursion P (xs ++ ys)

@@ -21,7 +21,7 @@ use Rattle.event_list.specs.Written.{name_parsed, texts_in}
 use Rattle.tsdl_parser.specs.Symbols.{is_text}
 use Rattle.trace_types.specs.declared.event_kind.EventKind.{EventKind}
 use Rattle.trace_types.specs.declared.event_kind.EventKind.TheVariants as event_kind
-use Rattle.kernel_layout.specs.Tracepoints.{call_kind, device_kind, first_of, interrupt_kind, layout_of, scheduler_kind, kind_named}
+use Rattle.kernel_layout.specs.Tracepoints.{call_kind, device_kind, first_of, interrupt_kind, kinds_of, scheduler_kind, kind_named}
 use Rattle.kernel_layout.specs.Needed.{address, comm, number, of_16, of_32, of_64, small}
 use Rattle.kernel_layout.specs.Kinds.{disk_request, event_of, fork, kind_of, migrate, name_of, or_other, other_event_of, ports, priority, process, segment, state, switch, wakeup_fields}
 use Rattle.host_sync.proofs.Ranges.{found, from_some, is_address, is_name, is_priority, is_state, lies, lies_between, mapped}
@@ -276,7 +276,7 @@ at_name [] n p other e = absurd (other (sym e))
 at_name (x ∷ xs) zero p other e = e
 at_name (x ∷ xs) (suc n) p other e = at_name xs n p other e
 
-are_named : (meta : TraceMetaModel) (name : ℕ) → IsNamed meta.declared.event_names (unwrap_or (slice_get (layout_of meta) name) event_kind.Other) name
+are_named : (meta : TraceMetaModel) (name : ℕ) → IsNamed meta.declared.event_names (unwrap_or (slice_get (kinds_of meta) name) event_kind.Other) name
 are_named meta name = (
   (λ e. let is = at_name meta.declared.event_names name event_kind.CallIn (λ c. absurd (cc)) e in call_in (name_at meta.declared.event_names name) (sym (is_call (name_at meta.declared.event_names name) (inl is)) ∙ is)),
   (λ e. let is = at_name meta.declared.event_names name event_kind.CallOut (λ c. absurd (cc)) e in call_out (name_at meta.declared.event_names name) (sym (is_call (name_at meta.declared.event_names name) (inr is)) ∙ is)),
@@ -286,4 +286,4 @@ are_named meta name = (
 pub kind_fits : (meta : TraceMetaModel) (raw : RawEvent) → Fits meta.declared.event_names (kind_of meta raw).0
 kind_fits meta raw =
     let name = name_of meta raw.event in
-    or_other_fits meta.declared.event_names name _ (event_fits meta.declared.event_names (unwrap_or (slice_get (layout_of meta) name) event_kind.Other) name meta.table raw.fields (are_named meta name))
+    or_other_fits meta.declared.event_names name _ (event_fits meta.declared.event_names (unwrap_or (slice_get (kinds_of meta) name) event_kind.Other) name meta.table raw.fields (are_named meta name))

@@ -25,7 +25,7 @@ use Rattle.trace_types.specs.declared.event_kind.EventKind.{EventKind}
 use Rattle.trace_types.specs.declared.event_kind.EventKind.TheVariants as event_kind
 use Rattle.kernel_layout.specs.Kinds.{disk_request, event_of, fork, kind_by, kind_of, migrate, name_of, or_other, other_event_of, ports, priority, process, segment, state, switch, wakeup_fields}
 use Rattle.kernel_layout.specs.Needed.{address, address_by, address_in, and_then, between, byte_in, byte_of, comm, comm_in, followed, is_byte, joined, list_address, lone_address, name_by, number, of_16, of_32, of_64, small}
-use Rattle.kernel_layout.specs.Tracepoints.{layout_of, kind_named}
+use Rattle.kernel_layout.specs.Tracepoints.{kinds_of, kind_named}
 
 -- ---- what a list of numbers spells
 
@@ -192,7 +192,7 @@ names_alike t u (suc index) (e ∷ es) (f ∷ fs) h = names_alike t u index es f
 pub kind_alike : (m n : TraceMetaModel) → IsSoundMeta m → IsSoundMeta n → IsSameTrace m n → (r s : RawEvent) → r.event ≡ s.event → Alike m.table n.table r.fields s.fields → kind_of m r ≡ kind_of n s
 kind_alike m n sm sn same r s index fields =
     let name : name_of m r.event ≡ name_of n s.event = ap (λ o. unwrap_or o 0) (names_alike m.table n.table r.event m.declared.events n.declared.events same.events) ∙ ap (name_of n) index in
-    let layout : layout_of m ≡ layout_of n = ap (map kind_named) same.event_names in
+    let layout : kinds_of m ≡ kinds_of n = ap (map kind_named) same.event_names in
     ap (λ a. kind_by m a r.fields) name
     ∙ (ap (λ l. or_other (name_of n s.event) (event_of (unwrap_or (slice_get l (name_of n s.event)) event_kind.Other) (name_of n s.event) m.table r.fields)) layout
-    ∙ ap (or_other (name_of n s.event)) (event_same m.table n.table sm.table sn.table r.fields s.fields fields (unwrap_or (slice_get (layout_of n) (name_of n s.event)) event_kind.Other) (name_of n s.event)))
+    ∙ ap (or_other (name_of n s.event)) (event_same m.table n.table sm.table sn.table r.fields s.fields fields (unwrap_or (slice_get (kinds_of n) (name_of n s.event)) event_kind.Other) (name_of n s.event)))

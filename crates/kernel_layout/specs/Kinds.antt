@@ -11,7 +11,8 @@ use Rattle.trace_types.specs.declared.woken.Woken.{Woken}
 use Rattle.trace_types.specs.declared.request.Request.{Request}
 use Rattle.trace_types.specs.declared.event_kind.EventKind.{EventKind}
 use Rattle.trace_types.specs.declared.event_kind.EventKind.TheVariants as event_kind
-use Rattle.kernel_layout.specs.Tracepoints.{layout_of}
+use Rattle.kernel_layout.specs.Tracepoints.{kinds_of}
+use Rattle.kernel_layout.specs.Skips.{kind_at}
 use Rattle.kernel_layout.specs.Needed.{and_then, address, between, comm, number, of_16, of_32, of_64, small}
 
 abbrev pub priority : Table → Field → List ℕ → Option ℤ
@@ -118,7 +119,7 @@ abbrev pub name_of : TraceMetaModel → ℕ → ℕ
 name_of meta index = unwrap_or (option_map (λ e. e.1.name) (slice_get meta.declared.events index)) 0
 
 abbrev pub kind_by : TraceMetaModel → ℕ → Field → KernelEvent × Bool
-kind_by meta name f = or_other name (event_of (unwrap_or (slice_get (layout_of meta) name) event_kind.Other) name meta.table f)
+kind_by meta name f = or_other name (event_of (kind_at (kinds_of meta) name) name meta.table f)
 
 abbrev pub kind_of : TraceMetaModel → RawEvent → KernelEvent × Bool
 kind_of meta raw = kind_by meta (name_of meta raw.event) raw.fields

@@ -1,3 +1,4 @@
 pub mod Tracepoints
 pub mod Needed
+pub mod Skips
 pub mod Kinds

@@ -1,9 +1,11 @@
 -- The kinds of events by the names of their tracepoints (the names are those of LTTng's kernel tracer; that these are told apart is this project's own).
-use Rattle.std.specs.Prelude.{◌||◌, List, codes, map, Option, Some, None, if◌then◌else◌}
+use Rattle.std.specs.Prelude.{ℕ, ◌||◌, List, codes, map, Option, Some, None, if◌then◌else◌}
 use Rattle.trace_types.specs.CallNames.{is_call_in, is_call_out}
 use Rattle.tsdl_parser.specs.Symbols.{is_text}
 use Rattle.type_table.specs.Types.{Text}
 use Rattle.type_table.specs.TraceMetas.{TraceMetaModel}
+use Rattle.ctf_fields.specs.FixedSizes.{sizes_of}
+use Rattle.kernel_layout.specs.Skips.{skip_of}
 use Rattle.trace_types.specs.declared.event_kind.EventKind.{EventKind}
 use Rattle.trace_types.specs.declared.event_kind.EventKind.TheVariants as event_kind
 
@@ -53,5 +55,17 @@ abbrev pub kind_named : Text → EventKind
 kind_named name = first_of (scheduler_kind name) (first_of (interrupt_kind name) (first_of (device_kind name) (call_kind name)))
 
 -- the kinds of all event names of a trace
-abbrev pub layout_of : TraceMetaModel → List EventKind
-layout_of meta = map kind_named meta.declared.event_names
+abbrev pub kinds_of : TraceMetaModel → List EventKind
+kinds_of meta = map kind_named meta.declared.event_names
+
+-- the kind of each event name, and for each event how many bits of it may be passed over
+pub record LayoutModel : Type 0 where
+  pub kinds : List EventKind
+  pub skips : List (Option ℕ)
+
+abbrev pub skips_of : TraceMetaModel → List (Option ℕ)
+skips_of meta = map (λ e. skip_of (kinds_of meta) (sizes_of meta.table) e.1) meta.declared.events
+
+-- what is decided once for all events of a trace
+abbrev pub layout_of : TraceMetaModel → LayoutModel
+layout_of meta = record { kinds = kinds_of meta; skips = skips_of meta }

@@ -1,51 +1,135 @@
-//! The kinds of a trace's event names.
-ghost use Rattle.std.specs.Prelude.{◌≡◌, IfOk, slice_get, unwrap_or};
-ghost use Rattle.kernel_layout.specs.Tracepoints.{layout_of};
-ghost use Rattle.trace_types.specs.declared.event_kind.EventKind.TheVariants as event_kind;
+//! The kinds of a trace's event names, and what may be passed over of its events.
+ghost use Rattle.std.specs.Prelude.{◌≡◌, IfOk, map};
+ghost use Rattle.ctf_fields.specs.FixedSizes.{AreSkips};
+ghost use Rattle.kernel_layout.specs.Skips.{kind_at, needs_fields, skip_of};
+ghost use Rattle.kernel_layout.specs.Tracepoints.{kinds_of, layout_of, skips_of};
 
 use crate::tracepoint::kind_named;
+use ctf_fields::{FixedSize, fixed_sizes, size_at};
 use std::alloc::Global;
 use std::marker::Model;
 use trace_types::{EventKind, OutOfMemory};
-use type_table::TraceMeta;
+use type_table::{EventParts, TraceMeta};
 
-/// The kind of each event name of a trace, decided once. Contracts see the list of them.
+/// The kind of each event name of a trace, and how many bits of each event may be passed over, decided once. Contracts
+/// see the lists of them.
 #[derive(Debug, Drop)]
 pub struct Layout {
     kinds: Vec<EventKind>,
+    skips: Vec<Option<u64>>,
 }
 
 impl Model for Layout {
-    ghost use Rattle.std.specs.Prelude.{List};
-    ghost use Rattle.trace_types.specs.declared.event_kind.EventKind.{EventKind};
+    ghost use Rattle.kernel_layout.specs.Tracepoints.{LayoutModel};
 
-    ghost Value = { List EventKind };
+    ghost Value = { LayoutModel };
 
-    ghost view = { λ l. l.kinds.items };
+    ghost view = { λ l. record { kinds = l.kinds.items; skips = l.skips.items } };
 }
 
 impl Layout {
-    /// The kinds of a trace's event names. The only error is lack of memory.
+    /// The kinds of a trace's event names, and what may be passed over of its events. The only error is lack of memory.
     pub fn new(alloc: Global, meta: &TraceMeta) -> Result<Layout, OutOfMemory>
         ensures { IfOk result (λ layout. layout ≡ layout_of meta.now) }
     {
-        meta.is_sound();
-        let mut kinds = Vec::new(alloc);
-        let mut number = 0u32;
-        while let Some(name) = meta.event_name(number) {
-            kinds.push(kind_named(name))?;
-            number += 1;
-        }
-        Ok(Layout { kinds })
+        let kinds = kinds_of(alloc, meta)?;
+        let skips = skips_of(alloc, meta, kinds.as_slice())?;
+        Ok(Layout { kinds, skips })
+    }
+
+    /// For each event that the trace declares how many bits its fields take, where they may be passed over: its kind
+    /// needs none of them, and they take as many wherever they begin at a whole byte.
+    #[tactic(auto, using(crate::proofs::PassedOver::are_skips))]
+    pub fn skips(&self, meta: &TraceMeta) -> &[Option<u64>]
+        requires { self.now ≡ layout_of meta.now }
+        ensures skips { result.now ≡ skips_of meta.now }
+        ensures sound { AreSkips meta.now result.now }
+    {
+        let _ = meta;
+        self.skips.as_slice()
     }
 
     /// The kind of the name of this number.
     pub fn of(&self, name: u32) -> EventKind
-        ensures { result ≡ unwrap_or (slice_get self.now name) event_kind.Other }
+        ensures { result ≡ kind_at self.now.kinds name }
     {
-        match self.kinds.get(name as usize) {
-            Some(found) => *found,
-            None => EventKind::Other,
-        }
+        kind_at(self.kinds.as_slice(), name)
     }
+}
+
+// The kinds of a trace's event names.
+fn kinds_of(alloc: Global, meta: &TraceMeta) -> Result<Vec<EventKind>, OutOfMemory>
+    ensures { IfOk result (λ kinds. kinds.items ≡ kinds_of meta.now) }
+{
+    meta.is_sound();
+    let mut kinds = Vec::new(alloc);
+    let mut number = 0u32;
+    while let Some(name) = meta.event_name(number) {
+        kinds.push(kind_named(name))?;
+        number += 1;
+    }
+    Ok(kinds)
+}
+
+fn kind_at(kinds: &[EventKind], name: u32) -> EventKind
+    ensures { result ≡ kind_at kinds.now name }
+{
+    match kinds.get(name as usize) {
+        Some(found) => *found,
+        None => EventKind::Other,
+    }
+}
+
+// How many bits of each event may be passed over.
+fn skips_of(
+    alloc: Global,
+    meta: &TraceMeta,
+    kinds: &[EventKind],
+) -> Result<Vec<Option<u64>>, OutOfMemory>
+    requires { kinds.now ≡ kinds_of meta.now }
+    ensures { IfOk result (λ skips. skips.items ≡ skips_of meta.now) }
+{
+    let sizes = fixed_sizes(alloc, meta.table())?;
+    skips_by(alloc, meta, kinds, sizes.as_slice())
+}
+
+fn skips_by(
+    alloc: Global,
+    meta: &TraceMeta,
+    kinds: &[EventKind],
+    sizes: &[Option<FixedSize>],
+) -> Result<Vec<Option<u64>>, OutOfMemory>
+    ensures { IfOk result (λ skips. skips.items ≡ map (λ e. skip_of kinds.now sizes.now e.1) meta.now.declared.events) }
+{
+    meta.is_sound();
+    let mut skips = Vec::new(alloc);
+    let mut number = 0u32;
+    while let Some((_, parts)) = meta.event(number) {
+        skips.push(skip_of(kinds, sizes, parts))?;
+        number += 1;
+    }
+    Ok(skips)
+}
+
+// How many bits of an event may be passed over.
+fn skip_of(kinds: &[EventKind], sizes: &[Option<FixedSize>], parts: EventParts) -> Option<u64>
+    ensures { result ≡ skip_of kinds.now sizes.now parts }
+{
+    if needs_fields(kind_at(kinds, parts.name)) {
+        return None;
+    }
+    match parts.fields {
+        Some(ty) => Some(size_at(sizes, ty)?.bits),
+        None => Some(0),
+    }
+}
+
+// Whether an event of this kind is told by its fields.
+fn needs_fields(kind: EventKind) -> bool
+    ensures { result ≡ needs_fields kind }
+{
+    !matches!(
+        kind,
+        EventKind::CallIn | EventKind::CallOut | EventKind::Other
+    )
 }

@@ -7,10 +7,12 @@ use Rattle.type_table.specs.Table.{Table}
 use Rattle.type_table.specs.TraceMetas.{EventIn, IsSoundMeta, TraceMetaModel, same_event}
 use Rattle.type_table.specs.declared.declared.EventId.{EventId}
 use Rattle.type_table.specs.declared.declared.EventParts.{EventParts}
-use Rattle.ctf_fields.specs.declared.open_struct.Scopes.{Scopes}
+use Rattle.type_table.specs.declared.meta.ScopeName.TheVariants.{EventHeader, StreamContext, EventContext}
+use Rattle.type_table.specs.PerScope.{with_scope}
+use Rattle.type_table.proofs.EachScope.{both_scopes_with}
 use Rattle.ctf_fields.specs.declared.field.Field.{Field}
 use Rattle.ctf_fields.specs.declared.raw.RawEvent.{RawEvent}
-use Rattle.ctf_fields.specs.Fields.{number_of, or_else}
+use Rattle.ctf_fields.specs.Fields.{Scopes, number_of, or_else}
 use Rattle.ctf_fields.specs.Named.{last_named}
 use Rattle.ctf_fields.specs.Reading.{Reads, Got, Fails}
 use Rattle.ctf_fields.proofs.Alike.{Alike, AlikeIf, AlikeScopes, ReadBoth, no_members}
@@ -18,7 +20,7 @@ use Rattle.ctf_fields.proofs.AlikeFields.{last_alike, named_alike, number_alike}
 use Rattle.ctf_fields.proofs.AlikeReading.{struct_alike}
 use Rattle.trace_types.specs.declared.cause.Cause.{Cause}
 use Rattle.trace_types.specs.declared.cause.Cause.TheVariants as cause
-use Rattle.packet_decoder.specs.Events.{PacketModel, as_packet, as_result, cause_of, cleared, decoded, event, event_added, event_at, event_body, event_by, event_fields, event_head, event_of, event_timed, events_from, field_or_none, from_of, head_by, packet_events, scope_at, with_event_context, with_event_header, with_stream_context, within}
+use Rattle.packet_decoder.specs.Events.{PacketModel, as_packet, as_result, cause_of, cleared, decoded, event, event_added, event_at, event_body, event_by, event_fields, event_head, event_of, event_timed, events_from, field_or_none, from_of, head_by, packet_events, scope_at, within}
 use Rattle.packet_decoder.specs.PacketHeads.{and_then}
 use Rattle.packet_decoder.specs.Times.{clock_after, clock_of, in_range, rate_of, time_of, time_after, usual_rate}
 use Rattle.packet_decoder.specs.Values.{id_in}
@@ -184,15 +186,15 @@ module _ (w v : PacketModel) (both : AlikeWithin w v) where
   unfolding event_fields
   fields_alike s r p q at to scopes parts is =
       then_alike (AlikeEnds w.meta.table v.meta.table) (AlikeEnds w.meta.table v.meta.table) _ _ _ _ (scope_alike s r p.context q.context at to scopes parts.context is)
-      (λ x y h. scope_alike (with_event_context x.0 s) (with_event_context y.0 r) p.fields q.fields x.1 y.1
-      (record { packet_header = scopes.packet_header; packet_context = scopes.packet_context; event_header = scopes.event_header; stream_context = scopes.stream_context; event_context = h.0; event_fields = scopes.event_fields }) parts.fields h.1)
+      (λ x y h. scope_alike (with_scope EventContext x.0 s) (with_scope EventContext y.0 r) p.fields q.fields x.1 y.1
+      (both_scopes_with (AlikeIf w.meta.table v.meta.table) EventContext x.0 y.0 s r h.0 scopes) parts.fields h.1)
 
   body_alike : (s r : Scopes) (p q : EventParts) (at to : ℕ) → AlikeScopes w.meta.table v.meta.table s r → AlikeParts w.meta.table v.meta.table p q → at ≡ to → AnswersBoth (AlikeEnds w.meta.table v.meta.table) (event_body w s p at) (event_body v r q to)
   unfolding event_body
   body_alike s r p q at to scopes parts is =
       then_alike (AlikeEnds w.meta.table v.meta.table) (AlikeEnds w.meta.table v.meta.table) _ _ _ _ (scope_alike s r w.parts.event_context v.parts.event_context at to scopes both.parts.event_context is)
-      (λ x y h. fields_alike (with_stream_context x.0 s) (with_stream_context y.0 r) p q x.1 y.1
-      (record { packet_header = scopes.packet_header; packet_context = scopes.packet_context; event_header = scopes.event_header; stream_context = h.0; event_context = scopes.event_context; event_fields = scopes.event_fields }) parts h.1)
+      (λ x y h. fields_alike (with_scope StreamContext x.0 s) (with_scope StreamContext y.0 r) p q x.1 y.1
+      (both_scopes_with (AlikeIf w.meta.table v.meta.table) StreamContext x.0 y.0 s r h.0 scopes) parts h.1)
 
   timed_both : (c : Cursor) (h k : EventHead) (f g : Option Field) (at to : ℕ) → AlikeHead w.meta.table v.meta.table h k → AlikeIf w.meta.table v.meta.table f g → at ≡ to → AnswersBoth (AlikeStep w.meta.table v.meta.table) (event_timed w c h f at) (event_timed v c k g to)
   timed_both c h k f g at to head fields is =
@@ -225,8 +227,8 @@ module _ (w v : PacketModel) (both : AlikeWithin w v) where
   step_alike s r c scopes =
       then_alike (AlikeHead w.meta.table v.meta.table) (AlikeStep w.meta.table v.meta.table) _ _ _ _ (head_alike s r c.at scopes)
       (λ h k head. then_alike (AlikeEnds w.meta.table v.meta.table) (AlikeStep w.meta.table v.meta.table) _ _ _ _
-      (body_alike (with_event_header h.header s) (with_event_header k.header r) h.parts k.parts h.at k.at
-      (record { packet_header = scopes.packet_header; packet_context = scopes.packet_context; event_header = head.header; stream_context = scopes.stream_context; event_context = scopes.event_context; event_fields = scopes.event_fields }) head.parts head.at)
+      (body_alike (with_scope EventHeader h.header s) (with_scope EventHeader k.header r) h.parts k.parts h.at k.at
+      (both_scopes_with (AlikeIf w.meta.table v.meta.table) EventHeader h.header k.header s r head.header scopes) head.parts head.at)
       (λ x y ends. timed_both c h k x.0 y.0 x.1 y.1 head ends.0 ends.1))
 
   raws_push : (rs ss : List RawEvent) (r s : RawEvent) → AlikeRaws w.meta.table v.meta.table rs ss → AlikeRaw w.meta.table v.meta.table r s → AlikeRaws w.meta.table v.meta.table (rs ++ r ∷ []) (ss ++ s ∷ [])

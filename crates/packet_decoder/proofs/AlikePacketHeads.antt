@@ -2,6 +2,7 @@
 use Rattle.std.proofs.Common.{◌≡◌, ◌∙◌, ℕ, Bool, true, false, cond, if◌then◌else◌, nat_eq, List, [], ◌∷◌, Option, Some, None, Result, Ok, Err, codes, option_map, refl, ap, subst}
 use Rattle.std.specs.Map.{lookup}
 use Rattle.type_table.specs.SameTrace.{AreBoth, IsSameStream, IsSameTrace, IsSameType}
+use Rattle.type_table.specs.PerScope.{no_scopes}
 use Rattle.type_table.specs.Table.{Table, IsSoundTable}
 use Rattle.type_table.specs.TraceMetas.{IfHere, IsSoundMeta, TraceMetaModel, IndexIn, StreamIn}
 use Rattle.type_table.specs.declared.declared.StreamScopes.{StreamScopes}
@@ -12,7 +13,7 @@ use Rattle.ctf_fields.specs.Reading.{SourceModel, Reads, Got, Fails, as_read, sc
 use Rattle.ctf_fields.proofs.Alike.{Alike, AlikeIf, AlikeScopes, ReadBoth, SameType}
 use Rattle.trace_types.specs.declared.cause.Cause.{Cause}
 use Rattle.trace_types.specs.declared.cause.Cause.TheVariants as cause
-use Rattle.packet_decoder.specs.PacketHeads.{by_context, by_header, by_stream, context_read, from_all, header_judged, packet_head, no_scopes, read_scope, stream_by, stream_of, with_header}
+use Rattle.packet_decoder.specs.PacketHeads.{by_context, by_header, by_stream, context_read, from_all, header_judged, packet_head, read_scope, stream_by, stream_of, with_header}
 use Rattle.packet_decoder.specs.Values.{uuid_matches}
 use Rattle.packet_decoder.specs.declared.packet_head.PacketHead.{PacketHead}
 use Rattle.ctf_fields.proofs.AlikeFields.{first_alike, named_alike}

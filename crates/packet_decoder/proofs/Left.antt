@@ -1,7 +1,7 @@
 -- The events that are left of a packet, one by one.
 use Rattle.std.proofs.Common.{◌≡◌, ◌∙◌, ℕ, zero, suc, ◌+◌, ◌-◌, ◌<◌, ◌≤◌, Bool, true, false, if◌then◌else◌, List, [], ◌∷◌, ◌++◌, append_assoc, append-nil, nat_lt, Result, Ok, Err, refl, sym, ap, arith}
-use Rattle.ctf_fields.specs.declared.open_struct.Scopes.{Scopes}
 use Rattle.ctf_fields.specs.declared.raw.RawEvent.{RawEvent}
+use Rattle.ctf_fields.specs.Fields.{Scopes}
 use Rattle.packet_decoder.specs.declared.piece.PacketResult.TheVariants as packet
 use Rattle.packet_decoder.specs.Events.{PacketModel, as_packet, event, event_added, events_from}
 use Rattle.packet_decoder.specs.PacketHeads.{Answers, and_then}

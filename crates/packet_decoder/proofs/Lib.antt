@@ -7,3 +7,4 @@ pub mod AlikePacketHeads
 pub mod AlikePieces
 pub mod AlikeEvents
 pub mod StandardFacts
+pub mod PassedOver

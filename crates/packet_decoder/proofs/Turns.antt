@@ -1,8 +1,8 @@
 -- Events that are read one by one.
 use Rattle.std.proofs.Common.{◌≡◌, ◌∙◌, ℕ, zero, suc, ◌<◌, ◌≤◌, Bool, true, false, nat_lt, if◌then◌else◌, List, Result, Ok, refl, ap, arith}
 use Rattle.std.proofs.lemmas.Bool.{ltb-true, ltb-false}
-use Rattle.ctf_fields.specs.declared.open_struct.Scopes.{Scopes}
 use Rattle.ctf_fields.specs.declared.raw.RawEvent.{RawEvent}
+use Rattle.ctf_fields.specs.Fields.{Scopes}
 use Rattle.packet_decoder.specs.Events.{PacketModel, event_added, events_from}
 use Rattle.packet_decoder.specs.PacketHeads.{and_then}
 use Rattle.trace_types.specs.declared.cause.Cause.{Cause}

@@ -1,10 +1,14 @@
 -- A packet whose events are read one by one (the events are those of CTF 1.8, section 6; that they are read so is this project's own).
-use Rattle.std.specs.Prelude.{ℕ, ◌-◌, List, [], ◌∷◌, Option, None, Some, Result, Ok, Err}
-use Rattle.ctf_fields.specs.declared.open_struct.Scopes.{Scopes}
+use Rattle.std.specs.Prelude.{◌≡◌, ℕ, ◌-◌, List, [], ◌∷◌, Option, None, Some, Result, Ok, Err}
 use Rattle.ctf_fields.specs.declared.raw.RawEvent.{RawEvent}
+use Rattle.ctf_fields.specs.declared.field.Field.{Field}
+use Rattle.ctf_fields.specs.Fields.{Scopes}
+use Rattle.ctf_fields.specs.FixedSizes.{skip_at}
 use Rattle.packet_decoder.specs.Events.{PacketModel, events_from}
 use Rattle.packet_decoder.specs.PacketHeads.{and_then}
 use Rattle.packet_decoder.specs.declared.events.Cursor.{Cursor}
+use Rattle.packet_decoder.specs.declared.failure.Failure.{Failure}
+use Rattle.packet_decoder.specs.declared.failure.Failure.TheVariants as failure
 use Rattle.trace_types.specs.declared.cause.Cause.{Cause}
 
 -- where the next event is read, in what scopes, and how many events were read before it
@@ -26,3 +30,24 @@ and_before raw rest = and_then rest (λ es. Ok (raw ∷ es))
 abbrev pub refusal : Result (List RawEvent) Cause → Option Cause
 refusal (Ok events) = None
 refusal (Err cause) = Some cause
+
+-- ---- events whose fields may be passed over
+
+-- a call answers so much of an event's fields: all of them where nothing is to be passed over, and the bit after them; or it refuses as they are refused
+abbrev pub FieldsReadAs : Option ℕ → Result (Option Field × ℕ) Cause → Result (Option Field × ℕ) Failure → Type 0
+FieldsReadAs skip answer (Ok r) = (whole : Option Field) × (answer ≡ Ok (whole, r.1)) × (skip ≡ None → r.0 ≡ whole)
+FieldsReadAs skip answer (Err (failure.Refused cause)) = answer ≡ Err cause
+FieldsReadAs skip answer (Err failure.OutOfMemory) = Unit {0}
+
+-- an event, and how it was read, which may be without its fields where these may be passed over
+pub record IsReadAs (skips : List (Option ℕ)) (whole raw : RawEvent) : Type 0 where
+  pub time : raw.time ≡ whole.time
+  pub cpu : raw.cpu ≡ whole.cpu
+  pub event : raw.event ≡ whole.event
+  pub fields : skip_at skips raw.event ≡ None → raw.fields ≡ whole.fields
+
+-- a call reads an event so, or refuses as it is refused
+abbrev pub EventReadAs : List (Option ℕ) → Result (RawEvent × Cursor) Cause → Result (RawEvent × Cursor) Failure → Type 0
+EventReadAs skips answer (Ok r) = (whole : RawEvent) × (answer ≡ Ok (whole, r.1)) × IsReadAs skips whole r.0
+EventReadAs skips answer (Err (failure.Refused cause)) = answer ≡ Err cause
+EventReadAs skips answer (Err failure.OutOfMemory) = Unit {0}

@@ -1,16 +1,17 @@
 -- The events of a packet (CTF 1.8, section 6; the order of the checks is this project's own).
 use Rattle.std.specs.Prelude.{ℕ, zero, suc, nat_eq, nat_lt, List, [], ◌∷◌, ◌++◌, drop, Option, Some, None, Result, Ok, Err, codes, option_map, position, slice_get, if◌then◌else◌}
 use Rattle.std.specs.Map.{keys_of}
+use Rattle.type_table.specs.PerScope.{scopes_before, with_scope}
 use Rattle.type_table.specs.TraceMetas.{TraceMetaModel, same_event}
+use Rattle.type_table.specs.declared.meta.ScopeName.TheVariants.{EventHeader, StreamContext, EventContext}
 use Rattle.type_table.specs.declared.declared.EventParts.{EventParts}
 use Rattle.type_table.specs.declared.declared.StreamScopes.{StreamScopes}
-use Rattle.ctf_fields.specs.declared.open_struct.Scopes.{Scopes}
 use Rattle.ctf_fields.specs.declared.error.FieldError.{FieldError}
 use Rattle.ctf_fields.specs.declared.error.FieldError.TheVariants as error
 use Rattle.ctf_fields.specs.declared.field.Field.{Field}
 use Rattle.ctf_fields.specs.declared.field.Field.TheVariants as field
 use Rattle.ctf_fields.specs.declared.raw.RawEvent.{RawEvent}
-use Rattle.ctf_fields.specs.Fields.{number_of}
+use Rattle.ctf_fields.specs.Fields.{Scopes, number_of}
 use Rattle.ctf_fields.specs.Named.{last_named}
 use Rattle.ctf_fields.specs.Reading.{SourceModel, Reads, Got, Fails}
 use Rattle.packet_decoder.specs.PacketHeads.{and_then, packet_head, read_scope}
@@ -39,17 +40,9 @@ from_of w s = record { table = w.meta.table; bytes = w.bytes; end = w.end; scope
 
 -- ---- the scopes of an event, one after the other
 
+-- no scope of an event is read
 abbrev pub cleared : Scopes → Scopes
-cleared s = record { packet_header = s.packet_header; packet_context = s.packet_context; event_header = None; stream_context = None; event_context = None; event_fields = None }
-
-abbrev pub with_event_header : Option Field → Scopes → Scopes
-with_event_header f s = record { packet_header = s.packet_header; packet_context = s.packet_context; event_header = f; stream_context = s.stream_context; event_context = s.event_context; event_fields = s.event_fields }
-
-abbrev pub with_stream_context : Option Field → Scopes → Scopes
-with_stream_context f s = record { packet_header = s.packet_header; packet_context = s.packet_context; event_header = s.event_header; stream_context = f; event_context = s.event_context; event_fields = s.event_fields }
-
-abbrev pub with_event_context : Option Field → Scopes → Scopes
-with_event_context f s = record { packet_header = s.packet_header; packet_context = s.packet_context; event_header = s.event_header; stream_context = s.stream_context; event_context = f; event_fields = s.event_fields }
+cleared s = scopes_before s.packet_header s.packet_context None None
 
 abbrev pub cause_of : FieldError → Cause
 cause_of error.NoVariant = cause.NoVariant
@@ -89,10 +82,10 @@ event_head w s at = and_then (scope_at w s w.parts.event_header at) (λ h. head_
 -- ---- what stands after the header: the stream's context for events, the event's context, and its fields
 
 unfoldable pub event_fields : PacketModel → Scopes → EventParts → ℕ → Result (Option Field × ℕ) Cause
-event_fields w s parts at = and_then (scope_at w s parts.context at) (λ x. scope_at w (with_event_context x.0 s) parts.fields x.1)
+event_fields w s parts at = and_then (scope_at w s parts.context at) (λ x. scope_at w (with_scope EventContext x.0 s) parts.fields x.1)
 
 unfoldable pub event_body : PacketModel → Scopes → EventParts → ℕ → Result (Option Field × ℕ) Cause
-event_body w s parts at = and_then (scope_at w s w.parts.event_context at) (λ x. event_fields w (with_stream_context x.0 s) parts x.1)
+event_body w s parts at = and_then (scope_at w s w.parts.event_context at) (λ x. event_fields w (with_scope StreamContext x.0 s) parts x.1)
 
 -- ---- events
 
@@ -110,7 +103,7 @@ event_timed w c head fields at =
 unfoldable pub event : PacketModel → Scopes → Cursor → Result (RawEvent × Cursor) Cause
 event w s c =
     and_then (event_head w s c.at) (λ head.
-    and_then (event_body w (with_event_header head.header s) head.parts head.at) (λ body. event_timed w c head body.0 body.1))
+    and_then (event_body w (with_scope EventHeader head.header s) head.parts head.at) (λ body. event_timed w c head body.0 body.1))
 
 -- with the next event after those that were read
 abbrev pub event_added : PacketModel → Scopes → List RawEvent → Cursor → Result (List RawEvent × Cursor) Cause

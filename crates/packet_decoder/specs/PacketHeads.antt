@@ -1,12 +1,13 @@
 -- What stands before the events of a packet: its header and its context (CTF 1.8, sections 5.1 and 5.2; the order of the checks is this project's own).
 use Rattle.std.specs.Prelude.{◌≡◌, ℕ, ◌*◌, List, length, Option, Some, None, Result, Ok, Err, codes, nat_eq, if◌then◌else◌, option_map}
 use Rattle.std.specs.Map.{lookup}
+use Rattle.type_table.specs.PerScope.{no_scopes, scopes_before}
 use Rattle.type_table.specs.TraceMetas.{TraceMetaModel}
 use Rattle.type_table.specs.declared.declared.StreamScopes.{StreamScopes}
-use Rattle.ctf_fields.specs.declared.open_struct.Scopes.{Scopes}
 use Rattle.ctf_fields.specs.declared.field.Field.{Field}
 use Rattle.ctf_fields.specs.Named.{first_named}
 use Rattle.ctf_fields.specs.Reading.{SourceModel, Reads, Got, Fails, as_read, scope_read}
+use Rattle.ctf_fields.specs.Fields.{Scopes}
 use Rattle.packet_decoder.specs.Values.{uuid_matches, id_in, magic_matches, number_named}
 use Rattle.trace_types.specs.declared.cause.Cause.{Cause}
 use Rattle.trace_types.specs.declared.cause.Cause.TheVariants as cause
@@ -29,14 +30,13 @@ abbrev pub read_scope : SourceModel → Option ℕ → ℕ → Reads (Option Fie
 read_scope from None at = Got None at
 read_scope from (Some ty) at = as_read Some (scope_read from ty at)
 
-abbrev pub no_scopes : Scopes
-no_scopes = record { packet_header = None; packet_context = None; event_header = None; stream_context = None; event_context = None; event_fields = None }
-
+-- the scopes that are read before a packet's context
 abbrev pub with_header : Option Field → Scopes
-with_header header = record { packet_header = header; packet_context = None; event_header = None; stream_context = None; event_context = None; event_fields = None }
+with_header header = scopes_before header None None None
 
+-- the scopes that are read before a packet's events
 abbrev pub with_context : Option Field → Option Field → Scopes
-with_context header context = record { packet_header = header; packet_context = context; event_header = None; stream_context = None; event_context = None; event_fields = None }
+with_context header context = scopes_before header context None None
 
 -- all bits of these bytes
 abbrev pub from_all : TraceMetaModel → List ℕ → Scopes → SourceModel

@@ -1,15 +1,17 @@
 //! The events of a packet.
-ghost use Rattle.std.specs.Prelude.{◌≡◌, ◌≤◌, ◌<◌, ◌^◌, ◌++◌, IfOk, OnOk, IfSome, [], ◌∷◌};
+ghost use Rattle.std.specs.Prelude.{◌≡◌, ◌≤◌, ◌<◌, ◌%◌, ◌^◌, ◌++◌, None, Some, option_map, slice_get, IfOk, OnOk, IfSome, [], ◌∷◌};
 ghost use Rattle.std.specs.Option.{option_copied};
-ghost use Rattle.packet_decoder.specs.Events.{cleared, event, event_body, event_fields, event_by, event_head, field_or_none, scope_at, with_event_header};
+ghost use Rattle.packet_decoder.specs.Events.{cleared, event, event_body, event_fields, event_by, event_head, field_or_none, scope_at};
+ghost use Rattle.packet_decoder.specs.EventReaders.{EventReadAs, FieldsReadAs};
 ghost use Rattle.packet_decoder.specs.PacketHeads.{Answers};
+ghost use Rattle.ctf_fields.specs.FixedSizes.{AreSkips, FieldsTake, skip_at};
 
 use crate::failure::Failure;
 use crate::times::{Timestamp, time_after, timestamp_in};
 use crate::values::id_in;
 use ctf_fields::{
     BitSpan, Field, FieldError, RawEvent, Scopes, Scratch, last_and_first, number_of,
-    read_type_within,
+    read_type_within, skip_fixed,
 };
 use sqlite_items::Items;
 use std::alloc::Global;
@@ -83,7 +85,8 @@ fn scope_at(
 
 // The index of the event of an id, and the types of its scopes.
 fn event_by(meta: &TraceMeta, stream: u64, id: Option<u64>) -> Option<(u32, EventParts)>
-    ensures { result ≡ event_by meta.now stream id }
+    ensures found { result ≡ event_by meta.now stream id }
+    ensures declared { IfSome result (λ e. option_map (λ d. d.1) (slice_get meta.now.declared.events e.0) ≡ Some e.1) }
 {
     let index = meta.find_event(stream, id?)?;
     let (_, parts) = meta.event(index)?;
@@ -102,6 +105,7 @@ fn event_head(
     requires { at ≤ 2 ^ 63 }
     ensures answers { Answers (event_head packet.now scopes.now at) result }
     ensures forward { IfOk result (λ h. (at ≤ h.at) × (h.at ≤ 2 ^ 63)) }
+    ensures declared { IfOk result (λ h. option_map (λ d. d.1) (slice_get packet.now.meta.declared.events h.event) ≡ Some h.parts) }
     ensures timestamp { IfOk result (λ h. IfSome h.timestamp (λ s. (1 ≤ s.size) × (s.size ≤ 64))) }
 {
     let (header, at) = scope_at(
@@ -128,6 +132,49 @@ fn event_head(
     })
 }
 
+// The fields of an event. They are passed over where it is known how many bits they take and they begin at a whole byte.
+fn fields_at(
+    alloc: Global,
+    packet: &Packet<'_>,
+    scopes: &Scopes,
+    scratch: &mut Scratch,
+    ty: Option<u32>,
+    skip: Option<u64>,
+    at: u64,
+) -> Result<(Option<Field>, u64), Failure>
+    requires at { at ≤ 2 ^ 63 }
+    requires skip { IfSome skip (FieldsTake packet.now.meta.table ty) }
+    ensures answers { FieldsReadAs skip (scope_at packet.now scopes.now ty at) result }
+    ensures forward { IfOk result (λ r. (at ≤ r.1) × (r.1 ≤ 2 ^ 63)) }
+{
+    if let Some(bits) = skip {
+        if at % 8 == 0 {
+            return pass_over(packet, scopes, ty, bits, at);
+        }
+    }
+    scope_at(alloc, packet, scopes, scratch, ty, at)
+}
+
+// Passes over fields that take so many bits.
+fn pass_over(
+    packet: &Packet<'_>,
+    scopes: &Scopes,
+    ty: Option<u32>,
+    bits: u64,
+    at: u64,
+) -> Result<(Option<Field>, u64), Failure>
+    requires at { at ≤ 2 ^ 63 }
+    requires whole { at % 8 ≡ 0 }
+    requires skip { FieldsTake packet.now.meta.table ty bits }
+    ensures answers { FieldsReadAs (Some bits) (scope_at packet.now scopes.now ty at) result }
+    ensures forward { IfOk result (λ r. (at ≤ r.1) × (r.1 ≤ 2 ^ 63)) }
+{
+    match skip_fixed(packet.bits.end, at, bits) {
+        Ok(next) => Ok((None, next)),
+        Err(_) => Err(Failure::Refused(Cause::ShortContent)),
+    }
+}
+
 // The event's fields, after its context.
 #[tactic(auto, unfolding(crate::specs::Events::event_fields))]
 fn event_fields(
@@ -136,16 +183,18 @@ fn event_fields(
     scopes: &mut Scopes,
     scratch: &mut Scratch,
     parts: EventParts,
+    skip: Option<u64>,
     at: u64,
 ) -> Result<(Option<Field>, u64), Failure>
-    requires { at ≤ 2 ^ 63 }
-    ensures answers { Answers (event_fields packet.now scopes.old parts at) result }
+    requires at { at ≤ 2 ^ 63 }
+    requires skip { IfSome skip (FieldsTake packet.now.meta.table parts.fields) }
+    ensures answers { FieldsReadAs skip (event_fields packet.now scopes.old parts at) result }
     ensures forward { IfOk result (λ r. (at ≤ r.1) × (r.1 ≤ 2 ^ 63)) }
     ensures stays { OnOk result (cleared scopes.new ≡ cleared scopes.old) }
 {
     let (context, at) = scope_at(alloc, packet, scopes, scratch, parts.context, at)?;
     scopes.event_context = context;
-    scope_at(alloc, packet, scopes, scratch, parts.fields, at)
+    fields_at(alloc, packet, scopes, scratch, parts.fields, skip, at)
 }
 
 // What stands after an event's header: the stream's context for events, and the event's own.
@@ -156,10 +205,12 @@ fn event_body(
     scopes: &mut Scopes,
     scratch: &mut Scratch,
     parts: EventParts,
+    skip: Option<u64>,
     at: u64,
 ) -> Result<(Option<Field>, u64), Failure>
-    requires { at ≤ 2 ^ 63 }
-    ensures answers { Answers (event_body packet.now scopes.old parts at) result }
+    requires at { at ≤ 2 ^ 63 }
+    requires skip { IfSome skip (FieldsTake packet.now.meta.table parts.fields) }
+    ensures answers { FieldsReadAs skip (event_body packet.now scopes.old parts at) result }
     ensures forward { IfOk result (λ r. (at ≤ r.1) × (r.1 ≤ 2 ^ 63)) }
     ensures stays { OnOk result (cleared scopes.new ≡ cleared scopes.old) }
 {
@@ -172,7 +223,7 @@ fn event_body(
         at,
     )?;
     scopes.stream_context = context;
-    event_fields(alloc, packet, scopes, scratch, parts, at)
+    event_fields(alloc, packet, scopes, scratch, parts, skip, at)
 }
 
 // No scope of an event is read. The memory of the header is used again.
@@ -196,24 +247,38 @@ fn field_or_none(alloc: Global, field: Option<Field>) -> Field
     }
 }
 
-/// The event at a bit, and what stands after it.
+// How many bits of an event may be passed over.
+fn skip_at(skips: &[Option<u64>], event: u32) -> Option<u64>
+    ensures { result ≡ skip_at skips.now event }
+{
+    match skips.get(event as usize) {
+        Some(skip) => *skip,
+        None => None,
+    }
+}
+
+/// The event at a bit, and what stands after it. Of events that `skips` has a number of bits for, the fields may be
+/// passed over.
 #[tactic(auto, unfolding(crate::specs::Events::event))]
 pub fn read_event(
     alloc: Global,
     packet: &Packet<'_>,
     scopes: &mut Scopes,
     scratch: &mut Scratch,
+    skips: &[Option<u64>],
     cursor: Cursor,
 ) -> Result<(RawEvent, Cursor), Failure>
-    requires { cursor.at ≤ 2 ^ 63 }
-    ensures answers { Answers (event packet.now (cleared scopes.old) cursor) result }
+    requires at { cursor.at ≤ 2 ^ 63 }
+    requires skips { AreSkips packet.now.meta skips.now }
+    ensures answers { EventReadAs skips.now (event packet.now (cleared scopes.old) cursor) result }
     ensures forward { IfOk result (λ r. (cursor.at < r.1.at) × (r.1.at ≤ 2 ^ 63)) }
     ensures stays { OnOk result (cleared scopes.new ≡ cleared scopes.old) }
 {
     clear(scopes, scratch);
     let head = event_head(alloc, packet, scopes, scratch, cursor.at)?;
     scopes.event_header = head.header;
-    let (fields, at) = event_body(alloc, packet, scopes, scratch, head.parts, head.at)?;
+    let skip = skip_at(skips, head.event);
+    let (fields, at) = event_body(alloc, packet, scopes, scratch, head.parts, skip, head.at)?;
     if at == cursor.at {
         return Err(Failure::Refused(Cause::NoBits));
     }

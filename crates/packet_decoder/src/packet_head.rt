@@ -3,7 +3,7 @@ ghost use Rattle.std.specs.Prelude.{◌≡◌, ◌≤◌, ◌*◌, ◌^◌, None
 ghost use Rattle.std.specs.Option.{option_copied};
 ghost use Rattle.ctf_fields.specs.Leaves.{IsSpan};
 ghost use Rattle.ctf_fields.specs.Reading.{Gives};
-ghost use Rattle.packet_decoder.specs.PacketHeads.{Answers, context_read, header_judged, packet_head, no_scopes, read_scope, stream_of};
+ghost use Rattle.packet_decoder.specs.PacketHeads.{Answers, context_read, header_judged, packet_head, read_scope, stream_of};
 
 use crate::failure::Failure;
 use crate::values::{id_in, magic_matches, uuid_matches};
@@ -12,7 +12,7 @@ use ctf_fields::{
 };
 use std::alloc::Global;
 use trace_types::Cause;
-use type_table::{StreamScopes, TraceMeta};
+use type_table::{PerScope, StreamScopes, TraceMeta};
 
 /// The fields of a packet's header and of its context, the first bit after them, and its stream: its id, and the
 /// types of its scopes.
@@ -22,19 +22,6 @@ pub struct PacketHead {
     pub start: u64,
     pub stream: u64,
     pub parts: StreamScopes,
-}
-
-fn no_scopes() -> Scopes
-    ensures { result ≡ no_scopes }
-{
-    Scopes {
-        packet_header: None,
-        packet_context: None,
-        event_header: None,
-        stream_context: None,
-        event_context: None,
-        event_fields: None,
-    }
 }
 
 /// The field of a scope that may be declared, and the bit after it. `scratch` is memory for structures that are
@@ -97,7 +84,7 @@ pub fn read_packet_head(alloc: Global, meta: &TraceMeta, rest: &[u8]) -> Result<
         meta.packet_header(),
         bits,
         0,
-        &no_scopes(),
+        &PerScope::none(),
         &mut scratch,
     ) {
         Ok((header, at)) => header_judged(alloc, meta, rest, header, at, &mut scratch),
@@ -149,7 +136,7 @@ fn context_read(
     ensures answers { Answers (context_read meta.now rest.now header at stream parts) result }
     ensures start { IfOk result (λ h. h.start ≤ 2 ^ 63) }
 {
-    let mut scopes = no_scopes();
+    let mut scopes = PerScope::none();
     scopes.packet_header = header;
     match read_scope(
         alloc,

@@ -2,7 +2,9 @@
 ghost use Rattle.std.specs.Prelude.{◌≡◌, ◌≤◌, ◌<◌, ◌+◌, ◌^◌, Ok, Err, None, Some, IfOk, IfSome, IfNone, OnOk, [], length};
 ghost use Rattle.packet_decoder.specs.Events.{as_packet, decoded};
 ghost use Rattle.packet_decoder.specs.Pieces.{LiesIn};
-ghost use Rattle.packet_decoder.specs.EventReaders.{and_before, events_left, refusal};
+ghost use Rattle.packet_decoder.specs.EventReaders.{IsReadAs, and_before, events_left, refusal};
+ghost use Rattle.ctf_fields.specs.FixedSizes.{AreSkips};
+ghost use Rattle.ctf_fields.specs.declared.raw.RawEvent.{RawEvent};
 ghost use Rattle.packet_decoder.specs.declared.failure.Failure.TheVariants as failure;
 ghost use Rattle.packet_decoder.specs.declared.piece.PacketResult.TheVariants as packet;
 ghost use Rattle.trace_types.specs.declared.cause.Cause.{Cause};
@@ -56,6 +58,7 @@ impl<'a> EventReader<'a> {
         requires span { LiesIn file.now span.now }
         ensures opened { IfOk result (λ r. decoded meta.now file.now span.now ≡ as_packet (events_left r)) }
         ensures first { IfOk result (λ r. r.read ≡ 0) }
+        ensures within { IfOk result (λ r. r.within.meta ≡ meta.now) }
         ensures refused { (cause : Cause) → result ≡ Err (failure.Refused cause) → decoded meta.now file.now span.now ≡ packet.Refused cause }
     {
         let rest = bytes_from(file, span.offset);
@@ -89,6 +92,23 @@ impl<'a> EventReader<'a> {
         ensures within { IfOk result (λ next. IfSome next (λ raw. self.new.within ≡ self.old.within)) }
         ensures refused { (cause : Cause) → result ≡ Err (failure.Refused cause) → events_left self.old ≡ Err cause }
     {
+        self.next_event_of(alloc, &[])
+    }
+
+    /// The next event, and none after the last. Where `skips` has a number of bits for an event, its fields may be
+    /// passed over: the event is then given without them.
+    pub fn next_event_of(
+        &mut self,
+        alloc: Global,
+        skips: &[Option<u64>],
+    ) -> Result<Option<RawEvent>, Failure>
+        requires { AreSkips self.old.within.meta skips.now }
+        ensures none { IfOk result (λ next. IfNone next (events_left self.old ≡ Ok [])) }
+        ensures some { IfOk result (λ next. IfSome next (λ raw. (whole : RawEvent) × IsReadAs skips.now whole raw × (events_left self.old ≡ and_before whole (events_left self.new)))) }
+        ensures counts { IfOk result (λ next. IfSome next (λ raw. (self.new.read ≡ self.old.read + 1) × (self.new.read ≤ 2 ^ 63) × (self.old.read < self.old.within.end))) }
+        ensures within { IfOk result (λ next. IfSome next (λ raw. self.new.within ≡ self.old.within)) }
+        ensures refused { (cause : Cause) → result ≡ Err (failure.Refused cause) → events_left self.old ≡ Err cause }
+    {
         if self.cursor.at >= self.packet.bits.end {
             return Ok(None);
         }
@@ -97,6 +117,7 @@ impl<'a> EventReader<'a> {
             &self.packet,
             &mut self.scopes,
             &mut self.scratch,
+            skips,
             self.cursor,
         )?;
         self.cursor = next;
@@ -104,12 +125,13 @@ impl<'a> EventReader<'a> {
         Ok(Some(event))
     }
 
-    /// Reads the packet to its end, and keeps no event.
-    pub fn skip_rest(&mut self, alloc: Global) -> Result<(), Failure>
+    /// Reads the packet to its end, and keeps no event. What `skips` says may be passed over is passed over.
+    pub fn skip_rest(&mut self, alloc: Global, skips: &[Option<u64>]) -> Result<(), Failure>
+        requires { AreSkips self.old.within.meta skips.now }
         ensures accepted { OnOk result (refusal (events_left self.old) ≡ None) }
         ensures refused { (cause : Cause) → result ≡ Err (failure.Refused cause) → refusal (events_left self.old) ≡ Some cause }
     {
-        while let Some(raw) = self.next_event(alloc)? {
+        while let Some(raw) = self.next_event_of(alloc, skips)? {
             self.recycle(raw.fields);
         }
         Ok(())

@@ -1,11 +1,12 @@
 use Rattle.std.proofs.Common.{◌≡◌, ◌∙◌, ◌<◌, ◌≤◌, ◌-◌, subst, sym, ap, Ok, Err, [], ◌+◌}
 use Rattle.std.proofs.lemmas.Result.{err_from_is_err_and}
+use Rattle.ctf_fields.specs.FixedSizes.{AreSkips}
 use Rattle.packet_decoder.specs.Events.{cleared}
 use Rattle.packet_decoder.specs.EventReaders.{and_before, events_left}
 use Rattle.packet_decoder.specs.declared.failure.Failure.TheVariants as failure
 use Rattle.packet_decoder.proofs.Left.{one_read, refused_by}
 use Rattle.packet_decoder.proofs.Turns.{all_events}
-use Rattle.packet_decoder.proofs.reader.EventReader.next_event.Goals as goal
+use Rattle.packet_decoder.proofs.reader.EventReader.next_event_of.Goals as goal
 
 pub returns-then-self-clause-none : goal.returns-then-self-clause-none
 returns-then-self-clause-none c =
@@ -25,5 +26,12 @@ pub returns-clause-some : goal.returns-clause-some
 returns-clause-some c =
     let r = c.self.inside in
     let left : r.cursor.at < r.packet.end = subst (λ i. i.cursor.at < i.packet.end) c.self-inside.view_is c.if-self.false in
-    subst (λ u. events_left u ≡ and_before c.in_ok-event.event (events_left (record { within = r.packet; scopes = cleared c.read_event.new.scopes; cursor = c.in_ok-event.next; read = r.read + 1 }))) c.self.view_is
-    (one_read r.packet (cleared r.scopes) (cleared c.read_event.new.scopes) r.cursor c.in_ok-event.next r.read c.in_ok-event.event c.self.invariant.0 left c.in_ok-event.ensures.stays c.in_ok-event.ensures.answers)
+    let read = c.in_ok-event.ensures.answers in (
+      read.0,
+      read.2,
+      subst (λ u. events_left u ≡ and_before read.0 (events_left (record { within = r.packet; scopes = cleared c.read_event.new.scopes; cursor = c.in_ok-event.next; read = r.read + 1 }))) c.self.view_is
+          (one_read r.packet (cleared r.scopes) (cleared c.read_event.new.scopes) r.cursor c.in_ok-event.next r.read read.0 c.self.invariant.0 left c.in_ok-event.ensures.stays read.1),
+    )
+
+pub read_event-requires-clause-skips : goal.read_event-requires-clause-skips
+read_event-requires-clause-skips c = subst (λ u. AreSkips u.within.meta c.args.skips.now) (sym c.self.view_is) c.requires

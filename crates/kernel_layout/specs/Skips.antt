@@ -1,0 +1,27 @@
+-- Events whose kind is told by their name alone, so that fields of one size may be passed over (this project's own).
+use Rattle.std.specs.Prelude.{ℕ, Bool, true, false, List, Option, Some, None, option_map, slice_get, unwrap_or, if◌then◌else◌}
+use Rattle.type_table.specs.declared.declared.EventParts.{EventParts}
+use Rattle.trace_types.specs.declared.event_kind.EventKind.{EventKind}
+use Rattle.trace_types.specs.declared.event_kind.EventKind.TheVariants as event_kind
+use Rattle.ctf_fields.specs.declared.fixed.FixedSize.{FixedSize}
+use Rattle.ctf_fields.specs.FixedSizes.{size_at}
+
+-- whether an event of this kind is told by its fields; a system call and any other event are told by their names
+abbrev pub needs_fields : EventKind → Bool
+needs_fields event_kind.CallIn = false
+needs_fields event_kind.CallOut = false
+needs_fields event_kind.Other = false
+needs_fields _ = true
+
+-- the kind of the name of this number
+abbrev pub kind_at : List EventKind → ℕ → EventKind
+kind_at kinds name = unwrap_or (slice_get kinds name) event_kind.Other
+
+-- how many bits an event's fields take, by the sizes of the types
+abbrev pub bits_of : List (Option FixedSize) → Option ℕ → Option ℕ
+bits_of sizes None = Some 0
+bits_of sizes (Some ty) = option_map (λ s. s.bits) (size_at sizes ty)
+
+-- how many bits of an event may be passed over
+abbrev pub skip_of : List EventKind → List (Option FixedSize) → EventParts → Option ℕ
+skip_of kinds sizes parts = if needs_fields (kind_at kinds parts.name) then None else bits_of sizes parts.fields
