@@ -5,5 +5,6 @@ pub mod Reading
 pub mod Cutting
 pub mod AlikeHosts
 pub mod Batching
+pub mod HostLists
 pub mod Missing
 pub mod StandardFacts

@@ -1,5 +1,5 @@
 -- A packet's events, each made a kernel event as it is read.
-use Rattle.std.proofs.Common.{◌≡◌, ℕ, ◌+◌, ◌≤◌, Bool, true, false, if◌then◌else◌, nat_le, List, [], ◌∷◌, ◌++◌, append_assoc, append-nil, length, map, None, Some, Result, Ok, Err, refl, sym, ap, ap₂, arith}
+use Rattle.std.proofs.Common.{◌≡◌, ◌∙◌, ℕ, ◌+◌, ◌≤◌, Bool, true, false, if◌then◌else◌, nat_le, List, [], ◌∷◌, ◌++◌, append_assoc, append-nil, length, map, Option, None, Some, Result, Ok, Err, refl, sym, ap, ap₂, arith}
 use Rattle.std.proofs.lemmas.Bool.{leb-true}
 use Rattle.std.proofs.lemmas.List.{length-append}
 use Rattle.type_table.specs.TraceMetas.{TraceMetaModel}
@@ -7,9 +7,13 @@ use Rattle.ctf_fields.specs.declared.raw.RawEvent.{RawEvent}
 use Rattle.trace_types.specs.declared.event.Event.{Event}
 use Rattle.trace_types.specs.declared.cause.Cause.{Cause}
 use Rattle.packet_decoder.specs.Events.{as_packet}
-use Rattle.packet_decoder.specs.EventReaders.{and_before, refusal}
+use Rattle.packet_decoder.specs.EventReaders.{IsReadAs, and_before, refusal}
 use Rattle.packet_decoder.specs.declared.piece.PacketSpan.{PacketSpan}
+use Rattle.ctf_fields.specs.FixedSizes.{skip_at}
 use Rattle.kernel_layout.specs.Kinds.{kind_of}
+use Rattle.kernel_layout.specs.Tracepoints.{skips_of}
+use Rattle.kernel_layout.proofs.PassedOver.{one_kind}
+use Rattle.trace_types.specs.declared.event.KernelEvent.{KernelEvent}
 use Rattle.decode_pool.specs.declared.decoded_packet.AcceptedPacket.{AcceptedPacket}
 use Rattle.decode_pool.specs.declared.decoded_packet.DecodedPacket.{DecodedPacket}
 use Rattle.decode_pool.specs.declared.decoded_packet.DecodedPacket.TheVariants as part
@@ -41,6 +45,19 @@ one_more host meta span events incomplete n raw (Err cause) e = refl
 
 pub at_last : (host : ℕ) (meta : TraceMetaModel) (span : PacketSpan) (events : List Event) (incomplete : ℕ) → with_left host meta span events incomplete (Ok []) ≡ part.Accepted (kept_so_far span events incomplete)
 at_last host meta span events incomplete = let none : incomplete + 0 ≡ incomplete = omega arith in ap₂ (λ es n. part.Accepted (kept_so_far span es n)) (append-nil events) none
+
+-- an event whose fields may be passed over is, as it was read, what it is whole
+pub one_event : (host : ℕ) (meta : TraceMetaModel) (skips : List (Option ℕ)) (raw whole : RawEvent) → skips ≡ skips_of meta → IsReadAs skips whole raw
+    → (kind_of meta raw ≡ kind_of meta whole) × (event_of host meta raw ≡ event_of host meta whole)
+one_event host meta skips raw whole is read =
+    let kind = one_kind meta raw whole read.event (λ none. read.fields (ap (λ s. skip_at s raw.event) is ∙ none)) in
+    (kind, by raw.time whole.time raw.cpu whole.cpu (kind_of meta raw) (kind_of meta whole) read.time read.cpu kind)
+  where
+    by : (time time' cpu cpu' : ℕ) (k k' : KernelEvent × Bool) → time ≡ time' → cpu ≡ cpu' → k ≡ k' → Path Event (record { time = time; host = host; cpu = cpu; kind = k.0 }) (record { time = time'; host = host; cpu = cpu'; kind = k'.0 })
+    by time time' cpu cpu' k k' t c e =
+        ap (λ n. record { time = n; host = host; cpu = cpu; kind = k.0 }) t
+        ∙ ap (λ n. record { time = time'; host = host; cpu = n; kind = k.0 }) c
+        ∙ ap (λ n. record { time = time'; host = host; cpu = cpu'; kind = n.0 }) e
 
 -- where so many events were read and one more follows, they are too many
 pub too_many : (host : ℕ) (meta : TraceMetaModel) (span : PacketSpan) (events : List Event) (incomplete most : ℕ) (raw : RawEvent) (left : Result (List RawEvent) Cause) → most ≤ length events → refusal left ≡ None

@@ -28,6 +28,11 @@ abbrev pub event_count : List HostFiles → ℕ
 event_count [] = 0
 event_count (h ∷ hs) = length (all_events h.host h.meta h.files.items) + event_count hs
 
+-- the events of lists
+abbrev pub list_events : List HostEvents → ℕ
+list_events [] = 0
+list_events (f ∷ fs) = length f.events.items + list_events fs
+
 -- for each host what its files hold
 abbrev pub AreHosts : List HostFiles → List HostEvents → Type 0
 AreHosts [] [] = Unit {0}

@@ -1,14 +1,14 @@
 //! All hosts, within the limits of a run.
-ghost use Rattle.std.specs.Prelude.{◌≡◌, ◌≤◌, ◌<◌, All, Err, IfNone, IfOk, IfSome, map};
+ghost use Rattle.std.specs.Prelude.{◌≡◌, ◌≤◌, ◌<◌, Err, IfOk, map};
 ghost use Rattle.std.specs.List.{AllByRecursion};
 ghost use Rattle.trace_types.specs.declared.limits.TheConstants.{MAX_EVENTS};
 ghost use Rattle.kernel_layout.specs.Tracepoints.{layout_of};
-ghost use Rattle.decode_pool.specs.Jobs.{IsCut, host_of};
 ghost use Rattle.decode_pool.specs.Limits.{AreHosts, HasSmallFiles, MAX_PACKETS, event_count, packet_count};
 ghost use Rattle.decode_pool.specs.declared.all.DecodeError.TheVariants.{TooManyEvents, TooManyPackets};
 
-use crate::hosts::{HostFiles, events_within};
-use crate::pieces::{HostPieces, Limits, cut_hosts};
+use crate::host_lists::lists_within;
+use crate::hosts::HostFiles;
+use crate::pieces::{Limits, cut_hosts};
 use kernel_layout::Layout;
 use std::alloc::Global;
 use std::thread::Threads;
@@ -36,7 +36,8 @@ impl From<OutOfMemory> for DecodeError {
     }
 }
 
-/// The events of each host. The packets of a file are decoded side by side, and the answer is that of one processor.
+/// The events of each host. The packets of all hosts are decoded side by side, and then each host's list is made beside
+/// those of the others; the answer is that of one processor.
 pub fn decode_all(
     rt: &(impl Threads + Sync),
     alloc: Global,
@@ -56,7 +57,7 @@ pub fn decode_all(
     let Some(cut) = cut_hosts(alloc, hosts, &layouts, limits)? else {
         return Err(DecodeError::TooManyPackets);
     };
-    match decode_hosts(rt, alloc, &cut)? {
+    match lists_within(rt, alloc, &cut, MAX_EVENTS)? {
         Some(found) => Ok(found),
         None => Err(DecodeError::TooManyEvents),
     }
@@ -71,27 +72,4 @@ fn layouts_of(alloc: Global, hosts: &[HostFiles]) -> Result<Vec<Layout>, OutOfMe
         layouts.push(Layout::new(alloc, &host.meta)?)?;
     }
     Ok(layouts)
-}
-
-// The events of hosts whose files are cut, and none where these and the marks are too many.
-fn decode_hosts(
-    rt: &(impl Threads + Sync),
-    alloc: Global,
-    cut: &[HostPieces<'_>],
-) -> Result<Option<Vec<HostEvents>>, OutOfMemory>
-    requires { All (IsCut MAX_EVENTS) cut.now }
-    ensures hosts { IfOk result (λ r. IfSome r (λ found. AreHosts (map host_of cut.now) found.items)) }
-    ensures within { IfOk result (λ r. IfSome r (λ found. event_count (map host_of cut.now) ≤ MAX_EVENTS)) }
-    ensures more { IfOk result (λ r. IfNone r (MAX_EVENTS < event_count (map host_of cut.now))) }
-{
-    let mut found = Vec::new(alloc);
-    let mut left = MAX_EVENTS;
-    for pieces in cut {
-        let Some(events) = events_within(rt, alloc, pieces, left)? else {
-            return Ok(None);
-        };
-        left -= events.events.as_slice().len() as u64;
-        found.push(events)?;
-    }
-    Ok(Some(found))
 }

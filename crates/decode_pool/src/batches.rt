@@ -3,7 +3,7 @@ ghost use Rattle.std.specs.Prelude.{◌≡◌, ◌≤◌, ◌<◌, ◌+◌, ◌+
 ghost use Rattle.decode_pool.specs.Excess.{events_in, kept_parts, least_events, part_events};
 ghost use Rattle.decode_pool.specs.Jobs.{Allows, CanDecode, job_part};
 
-use crate::decoded_packet::DecodedPacket;
+use crate::decoded_packet::{DecodedPacket, part_events};
 use crate::decoding::{Job, decode_jobs};
 use packet_decoder::Piece;
 use std::alloc::Global;
@@ -119,13 +119,4 @@ fn add_kept(
         parts.push(part)?;
     }
     Ok(Some(left))
-}
-
-fn part_events(part: &DecodedPacket) -> u64
-    ensures { result ≡ part_events part.now }
-{
-    match part {
-        DecodedPacket::Accepted(kept) => kept.events.len() as u64,
-        DecodedPacket::Refused { .. } => 0,
-    }
 }

@@ -4,7 +4,7 @@ ghost use Rattle.kernel_layout.specs.Tracepoints.{layout_of};
 ghost use Rattle.packet_decoder.specs.Pieces.{LiesIn, PieceLiesIn};
 ghost use Rattle.packet_decoder.specs.declared.failure.Failure.TheVariants as failure;
 ghost use Rattle.trace_types.specs.declared.cause.Cause.{Cause};
-ghost use Rattle.decode_pool.specs.Excess.{part_within};
+ghost use Rattle.decode_pool.specs.Excess.{part_events, part_within};
 ghost use Rattle.decode_pool.specs.Parts.{part_of, part_of_packet};
 ghost use Rattle.decode_pool.specs.declared.decoded_packet.DecodedPacket.TheVariants as part;
 
@@ -85,7 +85,8 @@ fn packet_within(
 }
 
 // A packet with its events, of which each is made a kernel event as it is read, so that its fields' memory is used again.
-// Where there are more than `most`, the packet is read to its end all the same, since it may be refused there.
+// Fields that no kind needs are passed over. Where there are more than `most`, the packet is read to its end all the
+// same, since it may be refused there.
 fn accept_packet(
     alloc: Global,
     most: u64,
@@ -106,10 +107,11 @@ fn accept_packet(
     let mut reader = EventReader::open(alloc, meta, file, span)?;
     let mut events = Items::new(alloc);
     let mut incomplete = 0u64;
-    while let Some(raw) = reader.next_event(alloc)? {
+    let skips = layout.skips(meta);
+    while let Some(raw) = reader.next_event_of(alloc, skips)? {
         if events.len() as u64 >= most {
             drop(events);
-            reader.skip_rest(alloc)?;
+            reader.skip_rest(alloc, skips)?;
             return Ok(None);
         }
         let (kind, lacks) = kind_of(meta, layout, &raw);
@@ -129,4 +131,14 @@ fn accept_packet(
         events,
         incomplete,
     }))
+}
+
+/// How many events a piece holds.
+pub fn part_events(part: &DecodedPacket) -> u64
+    ensures { result ≡ part_events part.now }
+{
+    match part {
+        DecodedPacket::Accepted(kept) => kept.events.len() as u64,
+        DecodedPacket::Refused { .. } => 0,
+    }
 }

@@ -1,9 +1,10 @@
 //! What the files of a host give together.
-ghost use Rattle.std.specs.Prelude.{◌≡◌, ◌≤◌, ◌+◌, ◌^◌, ◌++◌, IfErr, IfOk, OnOk, length};
+ghost use Rattle.std.specs.Prelude.{◌≡◌, ◌≤◌, ◌+◌, ◌^◌, ◌++◌, [], IfErr, IfOk, OnOk, length};
+ghost use Rattle.decode_pool.specs.Excess.{events_in};
 ghost use Rattle.decode_pool.specs.Hosts.{incomplete_in, refused_in};
 ghost use Rattle.decode_pool.specs.Marks.{file_events, accepted_in};
 
-use crate::decoded_packet::DecodedPacket;
+use crate::decoded_packet::{DecodedPacket, part_events};
 use crate::listing::add_file_events;
 use std::alloc::Global;
 use trace_types::{Event, OutOfMemory, RefusedPacket, Text};
@@ -16,6 +17,30 @@ pub struct Gathered {
     pub refused: Vec<RefusedPacket>,
     pub packets: u64,
     pub incomplete: u64,
+}
+
+/// Nothing yet, with room for the events of all of these parts and a mark before those of each.
+pub fn with_room(alloc: Global, parts: &[DecodedPacket]) -> Result<Gathered, OutOfMemory>
+    ensures { IfOk result (λ g. (g.events.items ≡ []) × (g.refused.items ≡ []) × (g.packets ≡ 0) × (g.incomplete ≡ 0)) }
+{
+    let events = Vec::with_capacity(alloc, most_listed(parts)?)?;
+    Ok(Gathered {
+        events,
+        refused: Vec::new(alloc),
+        packets: 0,
+        incomplete: 0,
+    })
+}
+
+// How many events parts give at most, with a mark before those of each.
+fn most_listed(parts: &[DecodedPacket]) -> Result<usize, OutOfMemory>
+    ensures { IfOk result (λ n. n ≡ events_in parts.now + length parts.now) }
+{
+    let mut events = parts.len() as u64;
+    for part in parts {
+        events = sum(events, part_events(part))?;
+    }
+    Ok(events as usize)
 }
 
 /// Adds what the pieces of one more file hold.

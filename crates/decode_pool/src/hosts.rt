@@ -1,15 +1,14 @@
 //! The events of hosts.
-ghost use Rattle.std.specs.Prelude.{◌≡◌, ◌≤◌, ◌<◌, ◌+◌, Err, IfNone, IfOk, IfSome, length};
+ghost use Rattle.std.specs.Prelude.{◌≡◌, IfOk};
 ghost use Rattle.std.specs.List.{AllByRecursion};
-ghost use Rattle.kernel_layout.specs.Tracepoints.{layout_of};
 ghost use Rattle.decode_pool.specs.Hosts.{IsHost, IsSmall, all_events, all_incomplete, all_packets, all_parts, all_refused, part_counts};
-ghost use Rattle.decode_pool.specs.Jobs.{IsCut};
+ghost use Rattle.decode_pool.specs.Jobs.{HasParts};
 
 use crate::batches::parts_within;
 use crate::decoded_packet::DecodedPacket;
 use crate::files::FileBytes;
-use crate::gathered::{Gathered, add_parts};
-use crate::pieces::{HostPieces, Limits, cut_host};
+use crate::gathered::{Gathered, add_parts, with_room};
+use crate::pieces::{Limits, cut_host};
 use kernel_layout::Layout;
 use stable_sort::sort_by_time;
 use std::alloc::Global;
@@ -42,35 +41,41 @@ pub fn host_events(
     ensures { IfOk result (λ found. IsHost host.now found) }
 {
     let layout = Layout::new(alloc, &host.meta)?;
-    let Some(pieces) = cut_host(alloc, host, &layout, NO_LIMITS)? else {
+    let mut jobs = Vec::new(alloc);
+    let Some(pieces) = cut_host(alloc, host, &layout, NO_LIMITS, &mut jobs)? else {
         return Err(OutOfMemory);
     };
-    match events_within(rt, alloc, &pieces, NO_LIMITS.events)? {
-        Some(found) => Ok(found),
-        None => Err(OutOfMemory),
-    }
+    let Some(parts) = parts_within(rt, alloc, &jobs, NO_LIMITS.events)? else {
+        return Err(OutOfMemory);
+    };
+    let own = HostParts {
+        host,
+        counts: &pieces.counts,
+        parts,
+    };
+    host_list(alloc, own)
 }
 
-/// The same of a host whose files are cut, and none where there are more than `most` events and marks.
-pub fn events_within(
-    rt: &(impl Threads + Sync),
-    alloc: Global,
-    pieces: &HostPieces<'_>,
-    most: u64,
-) -> Result<Option<HostEvents>, OutOfMemory>
-    requires { IsCut most pieces.now }
-    ensures host { IfOk result (λ r. IfSome r (λ found. IsHost pieces.now.host.now found)) }
-    ensures within { IfOk result (λ r. IfSome r (λ found. length found.events.items ≤ most)) }
-    ensures more { IfOk result (λ r. IfNone r (most < length (all_events pieces.now.host.now.host pieces.now.host.now.meta pieces.now.host.now.files.items))) }
+/// What the pieces of a host's files hold, one file after the other, and how many pieces each file has.
+#[derive(Drop)]
+pub struct HostParts<'a> {
+    pub host: &'a HostFiles,
+    pub counts: &'a [usize],
+    pub parts: Vec<DecodedPacket>,
+}
+
+/// The list of a host whose packets are decoded. Their memory is given back before the list is sorted.
+pub fn host_list(alloc: Global, own: HostParts<'_>) -> Result<HostEvents, OutOfMemory>
+    requires { HasParts own }
+    ensures { IfOk result (λ found. IsHost own.entry.host.now found) }
 {
-    let Some(mut gathered) = gather_within(rt, alloc, pieces, most)? else {
-        return Ok(None);
-    };
+    let host = own.host;
+    let mut gathered = gather(alloc, host, own.parts.as_slice(), own.counts)?;
+    drop(own);
     sort_by_time(alloc, &mut gathered.events)?;
-    let host = pieces.host;
     let names = names_of(alloc, &host.meta)?;
     let hostname = Text::from_bytes(alloc, host.meta.hostname())?;
-    Ok(Some(HostEvents {
+    Ok(HostEvents {
         host: host.host,
         hostname,
         names,
@@ -78,32 +83,7 @@ pub fn events_within(
         refused: gathered.refused,
         packets: gathered.packets,
         incomplete: gathered.incomplete,
-    }))
-}
-
-// What the files give together, the events not yet in order of time.
-fn gather_within(
-    rt: &(impl Threads + Sync),
-    alloc: Global,
-    pieces: &HostPieces<'_>,
-    most: u64,
-) -> Result<Option<Gathered>, OutOfMemory>
-    requires { IsCut most pieces.now }
-    ensures events { IfOk result (λ r. IfSome r (λ g. g.events.items ≡ all_events pieces.now.host.now.host pieces.now.host.now.meta pieces.now.host.now.files.items)) }
-    ensures refused { IfOk result (λ r. IfSome r (λ g. g.refused.items ≡ all_refused pieces.now.host.now.host pieces.now.host.now.meta pieces.now.host.now.files.items)) }
-    ensures packets { IfOk result (λ r. IfSome r (λ g. g.packets ≡ all_packets pieces.now.host.now.host pieces.now.host.now.meta pieces.now.host.now.files.items)) }
-    ensures incomplete { IfOk result (λ r. IfSome r (λ g. g.incomplete ≡ all_incomplete pieces.now.host.now.host pieces.now.host.now.meta pieces.now.host.now.files.items)) }
-    ensures within { IfOk result (λ r. IfSome r (λ g. length g.events.items ≤ most)) }
-    ensures more { IfOk result (λ r. IfNone r (most < length (all_events pieces.now.host.now.host pieces.now.host.now.meta pieces.now.host.now.files.items))) }
-{
-    let Some(parts) = parts_within(rt, alloc, &pieces.jobs, most)? else {
-        return Ok(None);
-    };
-    let gathered = gather(alloc, pieces.host, &parts, &pieces.counts)?;
-    if gathered.events.len() as u64 > most {
-        return Ok(None);
-    }
-    Ok(Some(gathered))
+    })
 }
 
 // What the parts of all files give together, where each file has so many.
@@ -120,12 +100,7 @@ fn gather(
     ensures packets { IfOk result (λ g. g.packets ≡ all_packets host.now.host host.now.meta host.now.files.items) }
     ensures incomplete { IfOk result (λ g. g.incomplete ≡ all_incomplete host.now.host host.now.meta host.now.files.items) }
 {
-    let mut gathered = Gathered {
-        events: Vec::new(alloc),
-        refused: Vec::new(alloc),
-        packets: 0,
-        incomplete: 0,
-    };
+    let mut gathered = with_room(alloc, parts)?;
     let mut left = parts;
     for at in 0..host.files.len() {
         let (own, behind) = left.split_at(counts[at]);

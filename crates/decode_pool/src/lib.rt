@@ -7,6 +7,7 @@ mod decoded_packet;
 mod decoding;
 mod files;
 mod gathered;
+mod host_lists;
 mod hosts;
 mod laws;
 mod listing;

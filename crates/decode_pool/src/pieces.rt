@@ -1,10 +1,10 @@
 //! The files of hosts, cut into pieces.
-ghost use Rattle.std.specs.Prelude.{◌≡◌, ◌≤◌, ◌<◌, ◌^◌, All, IfNone, IfOk, IfSome, length, map};
+ghost use Rattle.std.specs.Prelude.{◌≡◌, ◌≤◌, ◌<◌, ◌^◌, ◌++◌, All, IfNone, IfOk, IfSome, OnOk, length, map};
 ghost use Rattle.std.specs.List.{AllByRecursion};
 ghost use Rattle.kernel_layout.specs.Tracepoints.{layout_of};
 ghost use Rattle.packet_decoder.specs.Pieces.{AllLieIn, pieces};
-ghost use Rattle.decode_pool.specs.Hosts.{IsSmall};
-ghost use Rattle.decode_pool.specs.Jobs.{Allows, CanDecode, IsCut, host_of, job_part};
+ghost use Rattle.decode_pool.specs.Hosts.{IsSmall, all_parts};
+ghost use Rattle.decode_pool.specs.Jobs.{Allows, CanDecode, IsCounted, IsCut, host_of, job_part};
 ghost use Rattle.decode_pool.specs.Limits.{HasSmallFiles, host_packets, packet_count, packets_in};
 ghost use Rattle.decode_pool.specs.Parts.{part_of, parts_of};
 
@@ -17,13 +17,20 @@ use std::alloc::Global;
 use trace_types::OutOfMemory;
 use type_table::TraceMeta;
 
-/// The pieces of a host's files, one file after the other, each with what decoding it needs; how many pieces each file
-/// has, and how many packets are among them.
+/// The pieces of the files of hosts, host after host and one file after the other, each with what decoding it needs, and
+/// how many each host has.
+#[derive(Drop)]
+pub struct Pieces<'a> {
+    pub jobs: Vec<Job<'a>>,
+    pub hosts: Vec<HostPieces<'a>>,
+}
+
+/// How many pieces each file of a host has, how many they are together, and how many packets are among them.
 #[derive(Drop)]
 pub struct HostPieces<'a> {
     pub host: &'a HostFiles,
-    pub jobs: Vec<Job<'a>>,
     pub counts: Vec<usize>,
+    pub pieces: usize,
     pub packets: u64,
 }
 
@@ -41,81 +48,90 @@ pub fn cut_hosts<'a>(
     hosts: &'a [HostFiles],
     layouts: &'a [Layout],
     limits: Limits,
-) -> Result<Option<Vec<HostPieces<'a>>>, OutOfMemory>
+) -> Result<Option<Pieces<'a>>, OutOfMemory>
     requires files { AllByRecursion HasSmallFiles hosts.now }
     requires layouts { layouts.now ≡ map (λ h. layout_of h.meta) hosts.now }
-    ensures cut { IfOk result (λ r. IfSome r (λ cut. All (IsCut limits.events) cut.items)) }
-    ensures hosts { IfOk result (λ r. IfSome r (λ cut. map host_of cut.items ≡ hosts.now)) }
+    ensures cut { IfOk result (λ r. IfSome r (λ cut. IsCut limits.events cut)) }
+    ensures hosts { IfOk result (λ r. IfSome r (λ cut. map host_of cut.hosts.items ≡ hosts.now)) }
     ensures within { IfOk result (λ r. IfSome r (λ cut. packet_count hosts.now ≤ limits.packets)) }
     ensures more { IfOk result (λ r. IfNone r (limits.packets < packet_count hosts.now)) }
 {
+    let mut jobs = Vec::new(alloc);
     let mut cut = Vec::new(alloc);
     let mut left = limits;
     for at in 0..hosts.len() {
-        let Some(pieces) = cut_host(alloc, &hosts[at], &layouts[at], left)? else {
+        let Some(pieces) = cut_host(alloc, &hosts[at], &layouts[at], left, &mut jobs)? else {
             return Ok(None);
         };
         left.packets -= pieces.packets;
         cut.push(pieces)?;
     }
-    Ok(Some(cut))
+    Ok(Some(Pieces { jobs, hosts: cut }))
 }
 
-/// The pieces of a host, and none where there are more packets than may come. `layout` is that of its trace.
+/// Adds the pieces of a host; none where there are more packets than may come. `layout` is that of its trace.
 pub fn cut_host<'a>(
     alloc: Global,
     host: &'a HostFiles,
     layout: &'a Layout,
     limits: Limits,
+    jobs: &mut Vec<Job<'a>>,
 ) -> Result<Option<HostPieces<'a>>, OutOfMemory>
     requires layout { layout.now ≡ layout_of host.now.meta }
     requires files { AllByRecursion IsSmall host.now.files.items }
-    ensures cut { IfOk result (λ r. IfSome r (λ cut. IsCut limits.events cut)) }
+    requires can { All CanDecode jobs.old.items }
+    requires allowed { All (Allows limits.events) jobs.old.items }
+    ensures can { IfOk result (λ r. IfSome r (λ cut. All CanDecode jobs.new.items)) }
+    ensures allowed { IfOk result (λ r. IfSome r (λ cut. All (Allows limits.events) jobs.new.items)) }
+    ensures parts { IfOk result (λ r. IfSome r (λ cut. map job_part jobs.new.items ≡ map job_part jobs.old.items ++ all_parts host.now.host host.now.meta host.now.files.items)) }
+    ensures counted { IfOk result (λ r. IfSome r (λ cut. IsCounted cut)) }
     ensures host { IfOk result (λ r. IfSome r (λ cut. cut.host.now ≡ host.now)) }
     ensures packets { IfOk result (λ r. IfSome r (λ cut. cut.packets ≡ host_packets host.now.meta host.now.files.items)) }
     ensures within { IfOk result (λ r. IfSome r (λ cut. cut.packets ≤ limits.packets)) }
     ensures more { IfOk result (λ r. IfNone r (limits.packets < host_packets host.now.meta host.now.files.items)) }
 {
-    let mut jobs = Vec::new(alloc);
+    let before = jobs.len();
     let mut counts = Vec::new(alloc);
     let mut left = limits;
     for file in host.files.as_slice() {
-        let Some(own) = file_jobs(alloc, host, layout, &file.bytes, left)? else {
+        let Some(own) = cut_file(alloc, host, layout, &file.bytes, left, jobs)? else {
             return Ok(None);
         };
-        counts.push(own.jobs.len())?;
-        jobs.extend_from_slice(&own.jobs)?;
+        counts.push(own.pieces)?;
         left.packets -= own.packets;
     }
     Ok(Some(HostPieces {
         host,
-        jobs,
         counts,
+        pieces: jobs.len() - before,
         packets: limits.packets - left.packets,
     }))
 }
 
-// The pieces of a file, each with what decoding it needs, and how many packets are among them.
-#[derive(Drop)]
-struct FileJobs<'a> {
-    jobs: Vec<Job<'a>>,
+// How many pieces a file has, and how many packets are among them.
+#[derive(Clone, Copy)]
+struct FilePieces {
+    pieces: usize,
     packets: u64,
 }
 
-// The pieces of a file, and none where there are more packets than may come.
-fn file_jobs<'a>(
+// Adds the pieces of a file; none where there are more packets than may come.
+fn cut_file<'a>(
     alloc: Global,
     host: &'a HostFiles,
     layout: &'a Layout,
     file: &'a [u8],
     limits: Limits,
-) -> Result<Option<FileJobs<'a>>, OutOfMemory>
+    jobs: &mut Vec<Job<'a>>,
+) -> Result<Option<FilePieces>, OutOfMemory>
     requires layout { layout.now ≡ layout_of host.now.meta }
     requires file { length file.now ≤ 2 ^ 60 }
-    ensures can { IfOk result (λ r. IfSome r (λ found. All CanDecode found.jobs.items)) }
-    ensures allowed { IfOk result (λ r. IfSome r (λ found. All (Allows limits.events) found.jobs.items)) }
-    ensures parts { IfOk result (λ r. IfSome r (λ found. map job_part found.jobs.items ≡ parts_of host.now.host host.now.meta file.now)) }
-    ensures count { IfOk result (λ r. IfSome r (λ found. length found.jobs.items ≡ length (parts_of host.now.host host.now.meta file.now))) }
+    requires can { All CanDecode jobs.old.items }
+    requires allowed { All (Allows limits.events) jobs.old.items }
+    ensures can { IfOk result (λ r. IfSome r (λ found. All CanDecode jobs.new.items)) }
+    ensures allowed { IfOk result (λ r. IfSome r (λ found. All (Allows limits.events) jobs.new.items)) }
+    ensures parts { IfOk result (λ r. IfSome r (λ found. map job_part jobs.new.items ≡ map job_part jobs.old.items ++ parts_of host.now.host host.now.meta file.now)) }
+    ensures count { IfOk result (λ r. IfSome r (λ found. found.pieces ≡ length (parts_of host.now.host host.now.meta file.now))) }
     ensures packets { IfOk result (λ r. IfSome r (λ found. found.packets ≡ packets_in (pieces host.now.meta file.now))) }
     ensures within { IfOk result (λ r. IfSome r (λ found. found.packets ≤ limits.packets)) }
     ensures more { IfOk result (λ r. IfNone r (limits.packets < packets_in (pieces host.now.meta file.now))) }
@@ -124,26 +140,30 @@ fn file_jobs<'a>(
         return Ok(None);
     };
     let packets = packets_in(pieces.as_slice())?;
-    let jobs = jobs_of(alloc, host, layout, file, pieces.as_slice(), limits.events)?;
-    Ok(Some(FileJobs { jobs, packets }))
+    add_jobs(host, layout, file, pieces.as_slice(), limits.events, jobs)?;
+    Ok(Some(FilePieces {
+        pieces: pieces.as_slice().len(),
+        packets,
+    }))
 }
 
-fn jobs_of<'a>(
-    alloc: Global,
+fn add_jobs<'a>(
     host: &'a HostFiles,
     layout: &'a Layout,
     file: &'a [u8],
     pieces: &[Piece],
     most: u64,
-) -> Result<Vec<Job<'a>>, OutOfMemory>
+    jobs: &mut Vec<Job<'a>>,
+) -> Result<(), OutOfMemory>
     requires layout { layout.now ≡ layout_of host.now.meta }
     requires file { length file.now ≤ 2 ^ 60 }
     requires pieces { AllLieIn file.now pieces.now }
-    ensures can { IfOk result (λ jobs. All CanDecode jobs.items) }
-    ensures allowed { IfOk result (λ jobs. All (Allows most) jobs.items) }
-    ensures parts { IfOk result (λ jobs. map job_part jobs.items ≡ map (part_of host.now.host host.now.meta file.now) pieces.now) }
+    requires can { All CanDecode jobs.old.items }
+    requires allowed { All (Allows most) jobs.old.items }
+    ensures can { OnOk result (All CanDecode jobs.new.items) }
+    ensures allowed { OnOk result (All (Allows most) jobs.new.items) }
+    ensures parts { OnOk result (map job_part jobs.new.items ≡ map job_part jobs.old.items ++ map (part_of host.now.host host.now.meta file.now) pieces.now) }
 {
-    let mut jobs = Vec::new(alloc);
     for piece in pieces {
         jobs.push(Job {
             host: host.host,
@@ -154,7 +174,7 @@ fn jobs_of<'a>(
             most,
         })?;
     }
-    Ok(jobs)
+    Ok(())
 }
 
 fn packets_in(pieces: &[Piece]) -> Result<u64, OutOfMemory>

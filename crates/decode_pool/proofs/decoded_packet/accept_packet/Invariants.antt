@@ -5,7 +5,7 @@ use Rattle.decode_pool.proofs.Reading.{with_left}
 use Rattle.decode_pool.proofs.decoded_packet.accept_packet.Given as goal
 
 abbrev pub invariant-loop-events : goal.invariant-loop-events
-invariant-loop-events l = (part_of_packet l.host l.meta l.file l.span ≡ with_left l.host l.meta l.span l.events l.incomplete (events_left l.reader)) × (l.incomplete ≤ l.reader.read) × (length l.events ≤ l.most)
+invariant-loop-events l = (part_of_packet l.host l.meta l.file l.span ≡ with_left l.host l.meta l.span l.events l.incomplete (events_left l.reader)) × (l.incomplete ≤ l.reader.read) × (length l.events ≤ l.most) × (l.reader.within.meta ≡ l.meta)
 
 abbrev pub decreases-loop-events : goal.decreases-loop-events
 decreases-loop-events l = l.reader.within.end - l.reader.read
