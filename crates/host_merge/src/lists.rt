@@ -1,91 +1,125 @@
-//! Lists of merged events.
+//! Lists of the events that are merged, before they are gathered.
 ghost use Rattle.std.specs.Prelude.{◌≡◌, ◌++◌, [], IfOk, OnOk, map};
 ghost use Rattle.host_merge.specs.Lists.{AreTimed, IsJoined};
 ghost use Rattle.host_merge.specs.Merge.{by_key, with_own_time};
 
 use clock_fraction::PairMap;
-use stable_sort::sort_merged;
 use std::alloc::Global;
 use std::marker::Model;
 use trace_types::{Event, Merged, OutOfMemory};
 
-/// Events of a host and of those below it, on its clock.
+/// An event that stays in its host's list, with its time on the clock to which it was brought.
 #[derive(Drop)]
-pub struct MergedList {
-    events: Vec<Merged>,
+pub struct Head<'a> {
+    key: u64,
+    event: &'a Event,
 }
 
-impl Model for MergedList {
+impl<'a> Model for Head<'a> {
+    ghost use Rattle.trace_types.specs.declared.event.Merged.{Merged};
+
+    ghost Value = { Merged };
+
+    ghost view = { λ h. record { key = h.key; event = h.event.now } };
+}
+
+impl<'a> Head<'a> {
+    fn key(&self) -> u64
+        ensures { result ≡ self.now.key }
+    {
+        self.key
+    }
+
+    fn merged(&self) -> Merged
+        ensures { result ≡ self.now }
+    {
+        Merged {
+            key: self.key,
+            event: *self.event,
+        }
+    }
+}
+
+/// Events of a host and of those below it, on its clock.
+#[derive(Drop)]
+pub struct MergedList<'a> {
+    heads: Vec<Head<'a>>,
+}
+
+impl<'a> Model for MergedList<'a> {
     ghost use Rattle.std.specs.Prelude.{List};
     ghost use Rattle.trace_types.specs.declared.event.Merged.{Merged};
 
     ghost Value = { List Merged };
 
-    ghost view = { λ l. l.events.items };
+    ghost view = { λ l. l.heads.items };
 }
 
-impl MergedList {
+impl<'a> MergedList<'a> {
     pub fn new(alloc: Global) -> Self
         ensures { result ≡ [] }
     {
         MergedList {
-            events: Vec::new(alloc),
+            heads: Vec::new(alloc),
         }
     }
 
     /// A host's own events, with their own times as keys.
-    pub fn own(alloc: Global, events: &[Event]) -> Result<Self, OutOfMemory>
+    pub fn own(alloc: Global, events: &'a [Event]) -> Result<Self, OutOfMemory>
         ensures { IfOk result (λ list. list ≡ map with_own_time events.now) }
     {
-        let events = events
+        let heads = events
             .iter()
-            .map(|event| Merged {
+            .map(|event| Head {
                 key: event.time,
-                event: *event,
+                event,
             })
             .collect(alloc)?;
-        Ok(MergedList { events })
+        Ok(MergedList { heads })
     }
 
-    pub fn as_slice(&self) -> &[Merged]
+    pub fn as_slice(&self) -> &[Head<'a>]
         ensures { result.now ≡ self.now }
     {
-        self.events.as_slice()
+        self.heads.as_slice()
     }
 
-    pub fn into_vec(self) -> Vec<Merged>
-        ensures { result.items ≡ self }
+    /// The events themselves, copied from the hosts' lists.
+    pub fn gather(&self, alloc: Global) -> Result<Vec<Merged>, OutOfMemory>
+        ensures { IfOk result (λ merged. merged.items ≡ self.now) }
     {
-        self.events
+        Ok(self.heads.iter().map(|head| head.merged()).collect(alloc)?)
     }
 
-    pub fn sort(&mut self, alloc: Global) -> Result<(), OutOfMemory>
+    pub fn sort(&mut self) -> Result<(), OutOfMemory>
         ensures { OnOk result (self.new ≡ by_key self.old) }
     {
-        sort_merged(alloc, &mut self.events)
+        self.heads.sort_by_key(|head: &Head| head.key())?;
+        Ok(())
     }
 
     /// Appends the events of another list on the same clock.
-    pub fn append(&mut self, other: MergedList) -> Result<(), OutOfMemory>
-        ensures { OnOk result (self.new ≡ self.old ++ other) }
+    pub fn append(&mut self, other: MergedList<'a>) -> Result<(), OutOfMemory>
+        ensures { OnOk result (self.new ≡ self.old ++ other.entry) }
     {
-        if self.events.is_empty() {
-            self.events = other.events;
+        if self.heads.is_empty() {
+            self.heads = other.heads;
             return Ok(());
         }
-        self.events.extend_from_slice(other.as_slice())?;
+        let mut heads = other.heads;
+        self.heads.append(&mut heads)?;
         Ok(())
     }
 
     /// Appends events of another clock, with their keys brought to this one.
-    pub fn bring(&mut self, events: &[Merged], map: &PairMap) -> Result<(), OutOfMemory>
+    pub fn bring(&mut self, events: &[Head<'a>], map: &PairMap) -> Result<(), OutOfMemory>
         requires { AreTimed events.now }
         ensures { OnOk result (IsJoined map.now events.now self.old self.new) }
     {
-        for merged in events {
-            self.events.push(Merged {
-                key: map.map(merged.key),
-                event: merged.event,
+        for head in events {
+            self.heads.push(Head {
+                key: map.map(head.key),
+                event: head.event,
             })?;
         }
         Ok(())

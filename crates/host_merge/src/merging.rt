@@ -36,11 +36,11 @@ pub fn merge(
     let mut lists = lists_of(alloc, hosts)?;
     bring_all_up(alloc, forest, &depths, &mut lists)?;
     let mut whole = join_roots(alloc, forest, &mut lists)?;
-    whole.sort(alloc)?;
-    Ok(whole.into_vec())
+    whole.sort()?;
+    whole.gather(alloc)
 }
 
-fn lists_of(alloc: Global, hosts: &[HostEvents]) -> Result<Vec<MergedList>, OutOfMemory>
+fn lists_of<'a>(alloc: Global, hosts: &'a [HostEvents]) -> Result<Vec<MergedList<'a>>, OutOfMemory>
     ensures { IfOk result (λ lists. lists.items ≡ own_lists hosts.now) }
 {
     let mut lists = Vec::new(alloc);
@@ -51,11 +51,11 @@ fn lists_of(alloc: Global, hosts: &[HostEvents]) -> Result<Vec<MergedList>, OutO
 }
 
 // From the deepest level up, so that each list is whole when it is brought to its parent.
-fn bring_all_up(
+fn bring_all_up<'a>(
     alloc: Global,
     forest: &Parents,
     depths: &[usize],
-    lists: &mut Vec<MergedList>,
+    lists: &mut Vec<MergedList<'a>>,
 ) -> Result<(), OutOfMemory>
     requires counted { length forest.now.items ≡ length lists.old.items }
     requires rooted { LeadToRoots forest.now.items }
@@ -80,9 +80,9 @@ fn bring_all_up(
     Ok(())
 }
 
-fn bring_up(
+fn bring_up<'a>(
     alloc: Global,
-    lists: &mut Vec<MergedList>,
+    lists: &mut Vec<MergedList<'a>>,
     host: usize,
     parent: usize,
     map: &PairMap,
@@ -94,15 +94,15 @@ fn bring_up(
     ensures { OnOk result (IsBroughtUp host parent map.now lists.old.items lists.new.items) }
 {
     let mut list = mem::replace(&mut lists[host], MergedList::new(alloc));
-    list.sort(alloc)?;
+    list.sort()?;
     lists[parent].bring(list.as_slice(), map)
 }
 
-fn join_roots(
+fn join_roots<'a>(
     alloc: Global,
     forest: &Parents,
-    lists: &mut Vec<MergedList>,
-) -> Result<MergedList, OutOfMemory>
+    lists: &mut Vec<MergedList<'a>>,
+) -> Result<MergedList<'a>, OutOfMemory>
     requires counted { length forest.now.items ≡ length lists.old.items }
     requires times { AllAreTimed lists.old.items }
     ensures whole { IfOk result (λ whole. whole ≡ flat_map (sorted_at lists.old.items) (roots_of forest.now.items)) }
@@ -114,7 +114,7 @@ fn join_roots(
             continue;
         };
         let mut list = mem::replace(&mut lists[host], MergedList::new(alloc));
-        list.sort(alloc)?;
+        list.sort()?;
         whole.append(list)?;
     }
     Ok(whole)

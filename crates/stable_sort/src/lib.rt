@@ -1,6 +1,6 @@
-//! Events in order of time: sorts that keep the order of what has one time.
+//! Events in order of time: a sort that keeps the order of what has one time.
 #![tactic(auto)]
 
 mod sorts;
 
-pub use sorts::{sort_by_time, sort_merged};
+pub use sorts::sort_by_time;

@@ -1,5 +1,7 @@
-use Rattle.std.proofs.Common.{◌≡◌, sym, ap, ◌∙◌, subst}
+use Rattle.std.proofs.Common.{◌≡◌, List, sym, ap, ◌∙◌, subst}
+use Rattle.std.proofs.lemmas.Result.{IfOk-weaker}
 use Rattle.trace_types.specs.Order.{RiseFrom}
+use Rattle.trace_types.specs.declared.event.Merged.{Merged}
 use Rattle.host_merge.specs.Lists.{AllAreTimed, AreBroughtUp, AreTimed}
 use Rattle.host_merge.proofs.Joins.{timed_sorted}
 use Rattle.host_merge.specs.Merge.{IsMergeOf, by_key}
@@ -14,15 +16,14 @@ pub returns : goal.returns
 returns c =
     let parents = c.args.forest.now.items in
     let hosts = c.args.hosts.now in
-    let merged = c.into_vec.result.items in
-    let sorted : merged ≡ by_key c.in_ok-whole.whole = c.into_vec.ensures ∙ c.in_ok-sort.ensures in
-    let exact : IsMergeOf parents hosts merged =
-    merge_is parents hosts c.bring_all_up.new.lists.items merged c.requires.counted
+    let whole = c.in_ok-whole.whole in
+    let exact : (merged : List Merged) → merged ≡ by_key whole → IsMergeOf parents hosts merged =
+    λ merged sorted. merge_is parents hosts c.bring_all_up.new.lists.items merged c.requires.counted
     (subst (λ old. AreBroughtUp parents old c.bring_all_up.new.lists.items) c.in_ok-lists.ensures c.in_ok-bring_all_up.ensures.up)
     (sorted ∙ ap by_key c.in_ok-whole.ensures.whole) in
     record {
-      exact = exact;
-      order = subst (RiseFrom 0) (sym sorted) (sorted_rise c.in_ok-whole.whole);
-      times = subst AreTimed (sym sorted) (timed_sorted c.in_ok-whole.whole c.in_ok-whole.ensures.times);
-      kept = λ own in_time. keeps_order parents hosts merged c.requires.counted c.requires.rooted own in_time exact;
+      exact = IfOk-weaker c.gather.result _ _ (λ m e. exact m.items (e ∙ c.in_ok-sort.ensures)) c.gather.ensures;
+      order = IfOk-weaker c.gather.result _ _ (λ m e. subst (RiseFrom 0) (sym (e ∙ c.in_ok-sort.ensures)) (sorted_rise whole)) c.gather.ensures;
+      times = IfOk-weaker c.gather.result _ _ (λ m e. subst AreTimed (sym (e ∙ c.in_ok-sort.ensures)) (timed_sorted whole c.in_ok-whole.ensures.times)) c.gather.ensures;
+      kept = λ own in_time. IfOk-weaker c.gather.result _ _ (λ m e. keeps_order parents hosts m.items c.requires.counted c.requires.rooted own in_time (exact m.items (e ∙ c.in_ok-sort.ensures))) c.gather.ensures;
     }
