@@ -1,0 +1,6 @@
+pub mod Counting
+pub mod Placed
+pub mod Coming
+pub mod Stretches
+pub mod Told
+pub mod Filling

@@ -1,0 +1,3 @@
+pub mod Times
+pub mod Rows
+pub mod StandsFor
