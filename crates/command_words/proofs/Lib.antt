@@ -4,6 +4,7 @@ pub mod AllParts
 pub mod CommandNames
 pub mod Drifts
 pub mod Windows
+pub mod Sizes
 pub mod OneCommand
 pub mod Cuts
 pub mod InOrder

@@ -9,10 +9,11 @@ use Rattle.command_words.specs.declared.option_name.OptionName.{OptionName}
 use Rattle.command_words.specs.declared.command.Command.{Command}
 use Rattle.command_words.specs.declared.command.Command.TheVariants.{Plain}
 use Rattle.command_words.specs.declared.command.PlainCommand.{PlainCommand}
-use Rattle.command_words.specs.declared.command.PlainCommand.TheVariants.{Check, Report, Events, State, Ask, Path}
+use Rattle.command_words.specs.declared.command.PlainCommand.TheVariants.{Check, Report, Events, State, Ask, Path, Make}
 use Rattle.command_words.specs.declared.command.Input.{Input}
 use Rattle.command_words.specs.declared.command.Input.TheVariants as input
 use Rattle.command_words.proofs.AllParts.{one_list}
+use Rattle.command_words.proofs.Sizes.{hosts_low, one_start, rounds_low}
 use Rattle.command_words.proofs.Windows.{one_instant, one_number, same_some, starts_low}
 
 -- ---- words give one shape
@@ -28,14 +29,17 @@ shape_of_parts ps s r h g =
     let drift = same_value s.drift r.drift _ h.drift_is g.drift_is in
     let from = same_value s.from r.from _ h.from_is g.from_is in
     let host = same_value s.host r.host _ h.host_is g.host_is in
+    let hosts = same_value s.hosts r.hosts _ h.hosts_is g.hosts_is in
     let list = same_value s.list r.list _ h.list_is g.list_is in
+    let number = same_value s.number r.number _ h.number_is g.number_is in
     let once = same_value s.once r.once _ h.once_is g.once_is in
     let questions = same_value s.questions r.questions _ h.questions_are g.questions_are in
+    let rounds = same_value s.rounds r.rounds _ h.rounds_are g.rounds_are in
     let tid = same_value s.tid r.tid _ h.tid_is g.tid_is in
     let to = same_value s.to r.to _ h.to_is g.to_is in
     let workers = same_value s.workers r.workers _ h.workers_are g.workers_are in
     let positional : s.positional ≡ r.positional = sym h.positional_are ∙ g.positional_are in
-    λ i. record { at = at i; drift = drift i; from = from i; host = host i; list = list i; once = once i; questions = questions i; tid = tid i; to = to i; workers = workers i; positional = positional i }
+    λ i. record { at = at i; drift = drift i; from = from i; host = host i; hosts = hosts i; list = list i; number = number i; once = once i; questions = questions i; rounds = rounds i; tid = tid i; to = to i; workers = workers i; positional = positional i }
 
 pub one_shape : (ws : List (List ℕ)) (s r : Shape) → Gives ws s → Gives ws r → s ≡ r
 one_shape ws s r h g = shape_of_parts g.parts s r (subst (λ (ps : List Part). HaveShape ps s) (one_list ws h.parts g.parts h.are_parts g.are_parts) h.have_shape) g.have_shape
@@ -76,6 +80,11 @@ asked_once s ws (Path source host tid from to) (Path other guest thread start en
     let starts = one_instant s.from from start w.from_is v.from_is (starts_low w.is_window) (starts_low v.is_window) in
     let ends = one_instant s.to to end w.to_is v.to_is w.is_window.to_below v.is_window.to_below in
     λ i. Path (sources i) (hosts i) (threads i) (starts i) (ends i)
+asked_once s ws (Make number hosts rounds) (Make other many times) e h g =
+    let numbers = one_start s.number number other h.gives_sizes.number_is g.gives_sizes.number_is h.gives_sizes.are_sizes.number_below g.gives_sizes.are_sizes.number_below in
+    let counts = one_number s.hosts hosts many 65 (omega arith) h.gives_sizes.hosts_is g.gives_sizes.hosts_is (hosts_low h.gives_sizes.are_sizes) (hosts_low g.gives_sizes.are_sizes) in
+    let lengths = one_number s.rounds rounds times 100001 (omega arith) h.gives_sizes.rounds_is g.gives_sizes.rounds_is (rounds_low h.gives_sizes.are_sizes) (rounds_low g.gives_sizes.are_sizes) in
+    λ i. Make (numbers i) (counts i) (lengths i)
 asked_once s ws c d e h g = absurd (omega (arith, e))
 
 pub one_plain : (s : Shape) (c d : PlainCommand) → IsAsked s c → IsAsked s d → c ≡ d

@@ -23,11 +23,15 @@ bare_app = on_top (λ s. record s { disable_help_flag = true; no_binary_name = t
 
 -- with the options up to `list` (this project's own)
 abbrev pub first_app : App
-first_app = with_rule (with_rule (with_rule (with_rule (with_rule bare_app (option_rule (name_text name.At))) (option_rule (name_text name.Drift))) (option_rule (name_text name.From))) (option_rule (name_text name.Host))) (option_rule (name_text name.List))
+first_app = with_rule (with_rule (with_rule (with_rule (with_rule (with_rule bare_app (option_rule (name_text name.At))) (option_rule (name_text name.Drift))) (option_rule (name_text name.From))) (option_rule (name_text name.Host))) (option_rule (name_text name.Hosts))) (option_rule (name_text name.List))
+
+-- with those up to `rounds` (this project's own)
+abbrev pub middle_app : App
+middle_app = with_rule (with_rule (with_rule (with_rule first_app (option_rule (name_text name.Number))) (option_rule (name_text name.Once))) (option_rule (name_text name.Questions))) (option_rule (name_text name.Rounds))
 
 -- with all of them, and the positional words (this project's own)
 abbrev pub app : App
-app = with_rule (with_rule (with_rule (with_rule (with_rule (with_rule first_app (option_rule (name_text name.Once))) (option_rule (name_text name.Questions))) (option_rule (name_text name.Tid))) (option_rule (name_text name.To))) (option_rule (name_text name.Workers))) words_rule
+app = with_rule (with_rule (with_rule (with_rule middle_app (option_rule (name_text name.Tid))) (option_rule (name_text name.To))) (option_rule (name_text name.Workers))) words_rule
 
 -- options and positional words are those that were found (this project's own)
 pub record IsFound (found : Found) (shape : Shape) : Type 0 where
@@ -35,9 +39,12 @@ pub record IsFound (found : Found) (shape : Shape) : Type 0 where
   pub drift_is : shape.drift ≡ first_value found (name_text name.Drift)
   pub from_is : shape.from ≡ first_value found (name_text name.From)
   pub host_is : shape.host ≡ first_value found (name_text name.Host)
+  pub hosts_is : shape.hosts ≡ first_value found (name_text name.Hosts)
   pub list_is : shape.list ≡ first_value found (name_text name.List)
+  pub number_is : shape.number ≡ first_value found (name_text name.Number)
   pub once_is : shape.once ≡ first_value found (name_text name.Once)
   pub questions_is : shape.questions ≡ first_value found (name_text name.Questions)
+  pub rounds_is : shape.rounds ≡ first_value found (name_text name.Rounds)
   pub tid_is : shape.tid ≡ first_value found (name_text name.Tid)
   pub to_is : shape.to ≡ first_value found (name_text name.To)
   pub workers_is : shape.workers ≡ first_value found (name_text name.Workers)

@@ -12,9 +12,12 @@ slots shape =
     (name.Drift, shape.drift) ∷
     (name.From, shape.from) ∷
     (name.Host, shape.host) ∷
+    (name.Hosts, shape.hosts) ∷
     (name.List, shape.list) ∷
+    (name.Number, shape.number) ∷
     (name.Once, shape.once) ∷
     (name.Questions, shape.questions) ∷
+    (name.Rounds, shape.rounds) ∷
     (name.Tid, shape.tid) ∷
     (name.To, shape.to) ∷
     (name.Workers, shape.workers) ∷ []

@@ -35,9 +35,12 @@ pub record Shape : Type 0 where
   pub drift : Option (List ℕ)
   pub from : Option (List ℕ)
   pub host : Option (List ℕ)
+  pub hosts : Option (List ℕ)
   pub list : Option (List ℕ)
+  pub number : Option (List ℕ)
   pub once : Option (List ℕ)
   pub questions : Option (List ℕ)
+  pub rounds : Option (List ℕ)
   pub tid : Option (List ℕ)
   pub to : Option (List ℕ)
   pub workers : Option (List ℕ)
@@ -49,9 +52,12 @@ pub record HaveShape (parts : List Part) (shape : Shape) : Type 0 where
   pub drift_is : values name.Drift parts ≡ option_list shape.drift
   pub from_is : values name.From parts ≡ option_list shape.from
   pub host_is : values name.Host parts ≡ option_list shape.host
+  pub hosts_is : values name.Hosts parts ≡ option_list shape.hosts
   pub list_is : values name.List parts ≡ option_list shape.list
+  pub number_is : values name.Number parts ≡ option_list shape.number
   pub once_is : values name.Once parts ≡ option_list shape.once
   pub questions_are : values name.Questions parts ≡ option_list shape.questions
+  pub rounds_are : values name.Rounds parts ≡ option_list shape.rounds
   pub tid_is : values name.Tid parts ≡ option_list shape.tid
   pub to_is : values name.To parts ≡ option_list shape.to
   pub workers_are : values name.Workers parts ≡ option_list shape.workers

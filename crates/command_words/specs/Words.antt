@@ -1,11 +1,13 @@
 -- The command set (this project's own).
-use Rattle.std.specs.Prelude.{◌≡◌, ◌≢◌, ℕ, ◌^◌, ◌<◌, ◌≤◌, Bool, true, false, List, [], ◌∷◌, Option, Some, None, is_some, length, codes}
+use Rattle.std.specs.Prelude.{◌≡◌, ◌≢◌, ℕ, ◌^◌, ◌<◌, ◌≤◌, Bool, true, false, List, [], ◌∷◌, Option, Some, None, is_some, length}
 use Rattle.std.specs.Fmt.{decimal}
+use Rattle.command_words.specs.CommandNames.{name_word}
 use Rattle.command_words.specs.Shapes.{Gives, Shape}
 use Rattle.command_words.specs.declared.command.Command.{Command}
 use Rattle.command_words.specs.declared.command.Command.TheVariants.{Plain}
 use Rattle.command_words.specs.declared.command.PlainCommand.{PlainCommand}
-use Rattle.command_words.specs.declared.command.PlainCommand.TheVariants.{Check, Report, Events, State, Ask, Path}
+use Rattle.command_words.specs.declared.command.PlainCommand.TheVariants.{Check, Report, Events, State, Ask, Path, Make}
+use Rattle.command_words.specs.declared.command_name.CommandName.TheVariants as name
 use Rattle.command_words.specs.declared.command.Input.{Input}
 use Rattle.command_words.specs.declared.command.Input.TheVariants as input
 
@@ -46,9 +48,13 @@ IsUnasked shape = (shape.once ≡ None) × (shape.questions ≡ None) × (shape.
 abbrev pub HasNoWindow : Shape → Type 0
 HasNoWindow shape = (shape.host ≡ None) × (shape.tid ≡ None) × (shape.from ≡ None) × (shape.to ≡ None)
 
+-- none of the options of `make` is given (this project's own)
+abbrev pub IsUnmade : Shape → Type 0
+IsUnmade shape = (shape.number ≡ None) × (shape.hosts ≡ None) × (shape.rounds ≡ None)
+
 -- none but `--drift` is given (this project's own)
 abbrev pub IsBare : Shape → Type 0
-IsBare shape = (shape.at ≡ None) × (shape.list ≡ None) × IsUnasked shape × HasNoWindow shape
+IsBare shape = (shape.at ≡ None) × (shape.list ≡ None) × IsUnasked shape × HasNoWindow shape × IsUnmade shape
 
 -- `check`, which has no options (this project's own)
 pub record IsCheck (shape : Shape) (words folders : List (List ℕ)) : Type 0 where
@@ -71,6 +77,7 @@ pub record IsState (shape : Shape) (words : List (List ℕ)) (source : Input) (a
   pub source_is : GivesInput shape words source
   pub is_unasked : IsUnasked shape
   pub no_window : HasNoWindow shape
+  pub is_unmade : IsUnmade shape
 
 -- `ask`, with `--questions FILE`, `--workers` and `--once` (this project's own)
 pub record IsAsk (shape : Shape) (words : List (List ℕ)) (source : Input) (questions : List ℕ) (once : Bool) : Type 0 where
@@ -81,6 +88,7 @@ pub record IsAsk (shape : Shape) (words : List (List ℕ)) (source : Input) (que
   pub source_is : GivesInput shape words source
   pub no_at : shape.at ≡ None
   pub no_window : HasNoWindow shape
+  pub is_unmade : IsUnmade shape
 
 -- a host from 0 to 63, a thread from 1 to 2^31 - 1, and two instants from 0 to 2^62 - 1, one before the other (this project's own)
 pub record IsWindow (host tid from to : ℕ) : Type 0 where
@@ -104,15 +112,42 @@ pub record IsPath (shape : Shape) (words : List (List ℕ)) (source : Input) (ho
   pub source_is : GivesInput shape words source
   pub no_at : shape.at ≡ None
   pub is_unasked : IsUnasked shape
+  pub is_unmade : IsUnmade shape
+
+-- a number from 0 to 2^64 - 1, from 1 to 64 hosts, and from 1 to 100,000 rounds (this project's own)
+pub record AreSizes (number hosts rounds : ℕ) : Type 0 where
+  pub number_below : number < 2 ^ 64
+  pub hosts_least : 1 ≤ hosts
+  pub hosts_most : hosts ≤ 64
+  pub rounds_least : 1 ≤ rounds
+  pub rounds_most : rounds ≤ 100000
+
+-- `--number N`, `--hosts H` and `--rounds R` (this project's own)
+pub record GivesSizes (shape : Shape) (number hosts rounds : ℕ) : Type 0 where
+  pub number_is : shape.number ≡ Some (decimal number)
+  pub hosts_is : shape.hosts ≡ Some (decimal hosts)
+  pub rounds_is : shape.rounds ≡ Some (decimal rounds)
+  pub are_sizes : AreSizes number hosts rounds
+
+-- `make`, with the sizes of made traces, and no positional words (this project's own)
+pub record IsMake (shape : Shape) (words : List (List ℕ)) (number hosts rounds : ℕ) : Type 0 where
+  pub gives_sizes : GivesSizes shape number hosts rounds
+  pub no_words : words ≡ []
+  pub no_at : shape.at ≡ None
+  pub no_list : shape.list ≡ None
+  pub no_drift : shape.drift ≡ None
+  pub is_unasked : IsUnasked shape
+  pub no_window : HasNoWindow shape
 
 -- the word of a command (this project's own)
 abbrev pub command_name : PlainCommand → List ℕ
-command_name (Check folders) = codes "check"
-command_name (Report folders drift) = codes "report"
-command_name (Events folders drift) = codes "events"
-command_name (State source at) = codes "state"
-command_name (Ask source questions once) = codes "ask"
-command_name (Path source host tid from to) = codes "path"
+command_name (Check folders) = name_word name.Check
+command_name (Report folders drift) = name_word name.Report
+command_name (Events folders drift) = name_word name.Events
+command_name (State source at) = name_word name.State
+command_name (Ask source questions once) = name_word name.Ask
+command_name (Path source host tid from to) = name_word name.Path
+command_name (Make number hosts rounds) = name_word name.Make
 
 -- options and the words after COMMAND are those of a command (this project's own)
 abbrev pub Asks : Shape → List (List ℕ) → PlainCommand → Type 0
@@ -122,6 +157,7 @@ Asks shape words (Events folders drift) = IsMerged shape words folders drift
 Asks shape words (State source at) = IsState shape words source at
 Asks shape words (Ask source questions once) = IsAsk shape words source questions once
 Asks shape words (Path source host tid from to) = IsPath shape words source host tid from to
+Asks shape words (Make number hosts rounds) = IsMake shape words number hosts rounds
 
 -- the first positional word is COMMAND, the others are INPUT, and the options are the command's (this project's own)
 pub record IsAsked (shape : Shape) (command : PlainCommand) : Type 0 where
@@ -149,7 +185,7 @@ pub record HasPathRanges (source : Input) (host tid from to : ℕ) : Type 0 wher
   pub input_range : InputHasRange source
   pub is_window : IsWindow host tid from to
 
--- the drift of a command over folders is one, and a thread's window is one (this project's own)
+-- the drift of a command over folders is one, a thread's window is one, and so are the sizes of made traces (this project's own)
 abbrev pub HasRanges : PlainCommand → Type 0
 HasRanges (Check folders) = Unit {0}
 HasRanges (Report folders drift) = IsDrift drift
@@ -157,6 +193,7 @@ HasRanges (Events folders drift) = IsDrift drift
 HasRanges (State source at) = InputHasRange source
 HasRanges (Ask source questions once) = InputHasRange source
 HasRanges (Path source host tid from to) = HasPathRanges source host tid from to
+HasRanges (Make number hosts rounds) = AreSizes number hosts rounds
 
 -- the same of any command (this project's own)
 abbrev pub AreRanges : Command → Type 0

@@ -49,6 +49,12 @@ pub enum PlainCommand {
         from: u64,
         to: u64,
     },
+    /// The summary of traces that are made up in memory from a number: from 1 to 64 hosts, and from 1 to 100,000 rounds.
+    Make {
+        number: u64,
+        hosts: u32,
+        rounds: u32,
+    },
 }
 
 /// A command.

@@ -12,6 +12,7 @@ pub enum CommandName {
     State,
     Ask,
     Path,
+    Make,
 }
 
 /// The command with this word.
@@ -26,6 +27,7 @@ pub fn command_named(word: &[u8]) -> Option<CommandName>
         b"state" => Some(CommandName::State),
         b"ask" => Some(CommandName::Ask),
         b"path" => Some(CommandName::Path),
+        b"make" => Some(CommandName::Make),
         _ => None,
     }
 }

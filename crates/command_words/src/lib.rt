@@ -4,6 +4,7 @@
 mod command;
 mod command_name;
 pub mod laws;
+mod make;
 mod matched;
 mod option_name;
 mod ordered;

@@ -3,7 +3,7 @@ ghost use Rattle.std.specs.Prelude.{◌≡◌, ◌≢◌, ◌≤◌, [], Err, If
 ghost use Rattle.clap.specs.Lexer.{usize_max};
 ghost use Rattle.clap.specs.Words.{app_of, found_of, kind_of, matched_of, raw_values, with_rule};
 ghost use Rattle.clap.specs.declared.error.kind.ErrorKind.TheVariants as kind;
-ghost use Rattle.command_words.specs.Matching.{IsFound, app, bare_app, first_app, option_rule, words_rule};
+ghost use Rattle.command_words.specs.Matching.{IsFound, app, bare_app, first_app, middle_app, option_rule, words_rule};
 ghost use Rattle.command_words.specs.OrderedWords.{ordered_words};
 ghost use Rattle.command_words.specs.Shapes.{Shape};
 ghost use Rattle.command_words.specs.declared.words.WordsError.TheVariants as failure;
@@ -64,9 +64,12 @@ fn found_in<'a>(alloc: Global, matches: &ArgMatches<'a>) -> Result<Shape<'a>, Ou
         drift: matches.get_str("drift"),
         from: matches.get_str("from"),
         host: matches.get_str("host"),
+        hosts: matches.get_str("hosts"),
         list: matches.get_str("list"),
+        number: matches.get_str("number"),
         once: matches.get_str("once"),
         questions: matches.get_str("questions"),
+        rounds: matches.get_str("rounds"),
         tid: matches.get_str("tid"),
         to: matches.get_str("to"),
         workers: matches.get_str("workers"),
@@ -88,13 +91,22 @@ fn positional_in<'a>(alloc: Global, matches: &ArgMatches<'a>) -> Result<Vec<&'a 
 fn command<'a>(alloc: Global) -> Result<Command<'a>, AllocError>
     ensures { IfOk result (λ c. app_of c ≡ app) }
 {
-    let command = first_options(alloc)?;
-    let command = with_option(alloc, command, "once")?;
-    let command = with_option(alloc, command, "questions")?;
+    let command = middle_options(alloc)?;
     let command = with_option(alloc, command, "tid")?;
     let command = with_option(alloc, command, "to")?;
     let command = with_option(alloc, command, "workers")?;
     with_words(alloc, command)
+}
+
+// The options up to `rounds`.
+fn middle_options<'a>(alloc: Global) -> Result<Command<'a>, AllocError>
+    ensures { IfOk result (λ c. app_of c ≡ middle_app) }
+{
+    let command = first_options(alloc)?;
+    let command = with_option(alloc, command, "number")?;
+    let command = with_option(alloc, command, "once")?;
+    let command = with_option(alloc, command, "questions")?;
+    with_option(alloc, command, "rounds")
 }
 
 // The options up to `list`.
@@ -106,6 +118,7 @@ fn first_options<'a>(alloc: Global) -> Result<Command<'a>, AllocError>
     let command = with_option(alloc, command, "drift")?;
     let command = with_option(alloc, command, "from")?;
     let command = with_option(alloc, command, "host")?;
+    let command = with_option(alloc, command, "hosts")?;
     with_option(alloc, command, "list")
 }
 

@@ -21,7 +21,7 @@ pub fn ordered_words(alloc: Global, shape: &Shape) -> Result<Vec<String>, OutOfM
 }
 
 // The options by name, with the value of each that is given.
-fn slots<'a>(shape: &Shape<'a>) -> [(OptionName, Option<&'a str>); 10]
+fn slots<'a>(shape: &Shape<'a>) -> [(OptionName, Option<&'a str>); 13]
     ensures { map (λ s. (s.0, option_map (λ v. v.now) s.1)) result ≡ slots shape.now }
 {
     [
@@ -29,9 +29,12 @@ fn slots<'a>(shape: &Shape<'a>) -> [(OptionName, Option<&'a str>); 10]
         (OptionName::Drift, shape.drift),
         (OptionName::From, shape.from),
         (OptionName::Host, shape.host),
+        (OptionName::Hosts, shape.hosts),
         (OptionName::List, shape.list),
+        (OptionName::Number, shape.number),
         (OptionName::Once, shape.once),
         (OptionName::Questions, shape.questions),
+        (OptionName::Rounds, shape.rounds),
         (OptionName::Tid, shape.tid),
         (OptionName::To, shape.to),
         (OptionName::Workers, shape.workers),

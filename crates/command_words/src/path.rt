@@ -7,7 +7,7 @@ ghost use Rattle.command_words.specs.declared.words.WordsError.TheVariants.{Usag
 
 use crate::command::PlainCommand;
 use crate::shape::Shape;
-use crate::table::{is_unasked, read_input, read_instant};
+use crate::table::{is_unasked, is_unmade, read_input, read_instant};
 use crate::words::WordsError;
 use std::alloc::Global;
 use trace_types::{MAX_HOSTS, read_number_below};
@@ -30,7 +30,7 @@ pub fn read_path(alloc: Global, shape: &Shape, words: &[&str]) -> Result<PlainCo
     ensures found { IfOk result (λ c. IsAsked shape.now c) }
     ensures usage { result ≡ Err Usage → (c : PlainCommand) → ¬ (IsAsked shape.now c) }
 {
-    if shape.at.is_some() || !is_unasked(shape) {
+    if shape.at.is_some() || !is_unasked(shape) || !is_unmade(shape) {
         return Err(WordsError::Usage);
     }
     let Some(window) = read_window(shape) else {

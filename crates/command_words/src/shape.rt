@@ -19,9 +19,12 @@ pub struct Shape<'a> {
     pub drift: Option<&'a str>,
     pub from: Option<&'a str>,
     pub host: Option<&'a str>,
+    pub hosts: Option<&'a str>,
     pub list: Option<&'a str>,
+    pub number: Option<&'a str>,
     pub once: Option<&'a str>,
     pub questions: Option<&'a str>,
+    pub rounds: Option<&'a str>,
     pub tid: Option<&'a str>,
     pub to: Option<&'a str>,
     pub workers: Option<&'a str>,
@@ -39,9 +42,12 @@ impl<'a> Model for Shape<'a> {
       drift = option_map (λ v. v.now) s.drift;
       from = option_map (λ v. v.now) s.from;
       host = option_map (λ v. v.now) s.host;
+      hosts = option_map (λ v. v.now) s.hosts;
       list = option_map (λ v. v.now) s.list;
+      number = option_map (λ v. v.now) s.number;
       once = option_map (λ v. v.now) s.once;
       questions = option_map (λ v. v.now) s.questions;
+      rounds = option_map (λ v. v.now) s.rounds;
       tid = option_map (λ v. v.now) s.tid;
       to = option_map (λ v. v.now) s.to;
       workers = option_map (λ v. v.now) s.workers;
@@ -67,9 +73,12 @@ fn shape_of<'a>(alloc: Global, parts: &[Part<'a>]) -> Result<Shape<'a>, WordsErr
     let drift = value_of(parts, OptionName::Drift)?;
     let from = value_of(parts, OptionName::From)?;
     let host = value_of(parts, OptionName::Host)?;
+    let hosts = value_of(parts, OptionName::Hosts)?;
     let list = value_of(parts, OptionName::List)?;
+    let number = value_of(parts, OptionName::Number)?;
     let once = value_of(parts, OptionName::Once)?;
     let questions = value_of(parts, OptionName::Questions)?;
+    let rounds = value_of(parts, OptionName::Rounds)?;
     let tid = value_of(parts, OptionName::Tid)?;
     let to = value_of(parts, OptionName::To)?;
     let workers = value_of(parts, OptionName::Workers)?;
@@ -79,9 +88,12 @@ fn shape_of<'a>(alloc: Global, parts: &[Part<'a>]) -> Result<Shape<'a>, WordsErr
         drift,
         from,
         host,
+        hosts,
         list,
+        number,
         once,
         questions,
+        rounds,
         tid,
         to,
         workers,

@@ -1,13 +1,14 @@
 //! Which command the options and positional words are.
 ghost use Rattle.std.specs.Prelude.{◌≡◌, ◌≢◌, ◌∷◌, [], ◌↔◌, ◌<◌, ◌^◌, IfOk, IfSome, IfNone, Err, List, ℕ, IsTrue, None, Some, codes, map, option_map};
 ghost use Rattle.std.specs.Fmt.{decimal};
-ghost use Rattle.command_words.specs.Words.{AreFolders, GivesDrift, GivesInput, GivesWorkers, HasNoWindow, IsAsked, IsBare, IsMerged, IsUnasked};
+ghost use Rattle.command_words.specs.Words.{AreFolders, GivesDrift, GivesInput, GivesWorkers, HasNoWindow, IsAsked, IsBare, IsMerged, IsUnasked, IsUnmade};
 ghost use Rattle.command_words.specs.declared.command.Input.{Input};
 ghost use Rattle.command_words.specs.declared.command.PlainCommand.{PlainCommand};
 ghost use Rattle.command_words.specs.declared.words.WordsError.TheVariants.{Usage};
 
 use crate::command::{Input, PlainCommand};
 use crate::command_name::{CommandName, command_named};
+use crate::make::read_make;
 use crate::path::read_path;
 use crate::shape::Shape;
 use crate::words::WordsError;
@@ -39,6 +40,7 @@ pub fn read_command(alloc: Global, shape: &Shape) -> Result<PlainCommand, WordsE
         CommandName::State => read_state(alloc, shape, words),
         CommandName::Ask => read_ask(alloc, shape, words),
         CommandName::Path => read_path(alloc, shape, words),
+        CommandName::Make => read_make(shape, words),
     }
 }
 
@@ -100,7 +102,7 @@ fn read_state(alloc: Global, shape: &Shape, words: &[&str]) -> Result<PlainComma
     ensures found { IfOk result (λ c. IsAsked shape.now c) }
     ensures usage { result ≡ Err Usage → (c : PlainCommand) → ¬ (IsAsked shape.now c) }
 {
-    if !is_unasked(shape) || !has_no_window(shape) {
+    if !is_unasked(shape) || !has_no_window(shape) || !is_unmade(shape) {
         return Err(WordsError::Usage);
     }
     let Some(at) = read_instant(shape.at) else {
@@ -116,7 +118,10 @@ fn read_ask(alloc: Global, shape: &Shape, words: &[&str]) -> Result<PlainCommand
     ensures found { IfOk result (λ c. IsAsked shape.now c) }
     ensures usage { result ≡ Err Usage → (c : PlainCommand) → ¬ (IsAsked shape.now c) }
 {
-    if shape.at.is_some() || !has_no_window(shape) || !are_workers(shape.workers) {
+    if shape.at.is_some() || !has_no_window(shape) || !is_unmade(shape) {
+        return Err(WordsError::Usage);
+    }
+    if !are_workers(shape.workers) {
         return Err(WordsError::Usage);
     }
     let Some(questions) = file_name(shape.questions) else {
@@ -230,12 +235,23 @@ pub fn is_unasked(shape: &Shape) -> bool
 fn is_bare(shape: &Shape) -> bool
     ensures { IsTrue result ↔ IsBare shape.now }
 {
-    shape.at.is_none() && shape.list.is_none() && is_unasked(shape) && has_no_window(shape)
+    shape.at.is_none()
+        && shape.list.is_none()
+        && is_unasked(shape)
+        && has_no_window(shape)
+        && is_unmade(shape)
 }
 
-// Whether no option of a window is given.
-fn has_no_window(shape: &Shape) -> bool
+/// Whether no option of a window is given.
+pub fn has_no_window(shape: &Shape) -> bool
     ensures { IsTrue result ↔ HasNoWindow shape.now }
 {
     shape.host.is_none() && shape.tid.is_none() && shape.from.is_none() && shape.to.is_none()
+}
+
+/// Whether no option of `make` is given.
+pub fn is_unmade(shape: &Shape) -> bool
+    ensures { IsTrue result ↔ IsUnmade shape.now }
+{
+    shape.number.is_none() && shape.hosts.is_none() && shape.rounds.is_none()
 }

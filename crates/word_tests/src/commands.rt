@@ -89,3 +89,24 @@ fn paths(rt: HostRuntime) -> Result<(), Fail> {
         ],
     )
 }
+
+#[test]
+fn made_traces(rt: HostRuntime) -> Result<(), Fail> {
+    check_rows(
+        &rt,
+        &[
+            (
+                "make --number 7 --hosts 4 --rounds 6000",
+                "make of 7, hosts 4, rounds 6000",
+            ),
+            (
+                "--rounds=1 --number=0 make --hosts=1",
+                "make of 0, hosts 1, rounds 1",
+            ),
+            (
+                "make --rounds 100000 --hosts 64 --number 18446744073709551615",
+                "make of 18446744073709551615, hosts 64, rounds 100000",
+            ),
+        ],
+    )
+}

@@ -65,6 +65,11 @@ fn text_of(alloc: Global, command: &PlainCommand) -> Result<String, Fail> {
             let source = input_of(alloc, input)?;
             Ok(format!(in alloc; "path of {tid} on {host} from {from} to {to}{source}")?)
         }
+        PlainCommand::Make {
+            number,
+            hosts,
+            rounds,
+        } => Ok(format!(in alloc; "make of {number}, hosts {hosts}, rounds {rounds}")?),
     }
 }
 

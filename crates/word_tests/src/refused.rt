@@ -139,3 +139,37 @@ fn windows(rt: HostRuntime) -> Result<(), Fail> {
         ],
     )
 }
+
+#[test]
+fn sizes(rt: HostRuntime) -> Result<(), Fail> {
+    refused(
+        &rt,
+        &[
+            "make",
+            "make --hosts 1 --rounds 1",
+            "make --number 1 --rounds 1",
+            "make --number 1 --hosts 1",
+            "make --number 18446744073709551616 --hosts 1 --rounds 1",
+            "make --number 01 --hosts 1 --rounds 1",
+            "make --number= --hosts 1 --rounds 1",
+            "make --number 1 --hosts 0 --rounds 1",
+            "make --number 1 --hosts 65 --rounds 1",
+            "make --number 1 --hosts 1 --rounds 0",
+            "make --number 1 --hosts 1 --rounds 100001",
+            "make --number 1 --number 1 --hosts 1 --rounds 1",
+            "make --number 1 --hosts 1 --rounds 1 X",
+            "make --number 1 --hosts 1 --rounds 1 --list A",
+            "make --number 1 --hosts 1 --rounds 1 --drift 5",
+            "make --number 1 --hosts 1 --rounds 1 --at 0",
+            "make --number 1 --hosts 1 --rounds 1 --once",
+            "make --number 1 --hosts 1 --rounds 1 --host 0",
+            "make --number 1 --host 1 --rounds 1",
+            "check --rounds 1 X",
+            "report --number 1 X",
+            "events --hosts 1 X",
+            "state --at 1 --list A --number 1",
+            "ask --questions Q --list A --hosts 1",
+            "path --host 0 --tid 1 --from 0 --to 1 --rounds 1 X",
+        ],
+    )
+}
