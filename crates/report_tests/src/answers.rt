@@ -1,5 +1,6 @@
 //! Hosts, their messages and merge, and the report on them.
 ghost use Rattle.std.specs.Prelude.{◌<◌, ◌≤◌, ◌^◌, All, IsTrue};
+ghost use Rattle.trace_types.specs.Order.{RiseFrom};
 ghost use Rattle.host_tree.specs.Points.{IsBetween};
 
 use host_merge::Placed;
@@ -45,7 +46,8 @@ pub fn mark(host: u32, time: u64, events: u64) -> Event {
     event(host, time, KernelEvent::Lost { events, gap: false })
 }
 
-fn event(host: u32, time: u64, kind: KernelEvent) -> Event {
+/// An event on processor 0.
+pub fn event(host: u32, time: u64, kind: KernelEvent) -> Event {
     Event {
         time,
         host,
@@ -95,6 +97,15 @@ fn are_between(hosts: u32, messages: &[Message]) -> bool
     })
 }
 
+fn rise(least: u64, merged: &[Merged]) -> bool
+    ensures { IsTrue result → RiseFrom least merged.now }
+{
+    match merged {
+        [] => true,
+        [event, rest @ ..] => least <= event.key && rise(event.key, rest),
+    }
+}
+
 /// The report on these hosts, whose fits and forest are those of the messages, at a drift of 1000.
 pub fn report_of<R: Abort + AllocGlobal>(
     rt: &R,
@@ -106,6 +117,7 @@ pub fn report_of<R: Abort + AllocGlobal>(
     let alloc = rt.alloc();
     assert!(rt; hosts.len() <= 64);
     assert!(rt; messages.len() < 1000 && placed.len() < 1000);
+    assert!(rt; rise(0, merged));
     let count = hosts.len() as u32;
     let messages = Messages {
         matched: Vec::from_slice(alloc, messages)?,

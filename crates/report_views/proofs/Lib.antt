@@ -8,3 +8,6 @@ pub mod MarkCounts
 pub mod MessageCounts
 pub mod SameReports
 pub mod Stretches
+pub mod Ordered
+pub mod TimeLines
+pub mod CallLines

@@ -10,11 +10,10 @@ use Rattle.std.proofs.lemmas.Result.{on_ok_weaker}
 use Rattle.std.proofs.lemmas.Bool.Decides.{eqb_tells}
 use Rattle.std.specs.Fmt.{decimal}
 use Rattle.trace_types.specs.ByteTexts.{byte_text}
-use Rattle.trace_types.specs.declared.event.Merged.{Merged}
 use Rattle.trace_types.specs.declared.host.HostEvents.{HostEvents}
 use Rattle.message_match.specs.declared.message.Message.{Message}
 use Rattle.hull_lines.specs.declared.outcome.Fit.{Fit}
-use Rattle.report_views.specs.Report.{AreCounted, count_at, count_from, host_line, inverted_line, is_map, last_key, messages_line, pair_line, pair_lines, pair_lines_of, yes_or_no}
+use Rattle.report_views.specs.Report.{AreCounted, count_at, count_from, host_line, inverted_line, is_map, messages_line, pair_line, pair_lines, pair_lines_of, yes_or_no}
 
 -- the line of one more number
 pub next_line : (f : ℕ → List ℕ) (old mid new : List ℕ) (a n x m : ℕ) → mid ≡ old ++ flat_map f (range_with_len a n) → new ≡ mid ++ f x → a + n ≡ x → n + 1 ≡ m → new ≡ old ++ flat_map f (range_with_len a m)
@@ -88,8 +87,12 @@ host_is h events refused some none = regrouped ∙ ap₂ line some none
     regrouped : (codes "host " ++ (decimal h.host ++ 32 ∷ [])) ++ byte_text h.hostname ++ (codes " events " ++ (decimal events ++ (codes " packets " ++ (decimal h.packets ++ (codes " refused " ++ (decimal refused ++ (codes " incomplete " ++ (decimal h.incomplete ++ 10 ∷ [])))))))) ≡ line events refused
     regrouped = simp append_assoc
 
--- ---- the window
-pub last_is : (ms : List Merged) (d : Merged) → 1 ≤ length ms → (get_or ms (length ms - 1) d).key ≡ last_key ms
-last_is [] d h = absurd (omega (arith, h))
-last_is (m ∷ []) d h = refl
-last_is (m ∷ (n ∷ ms)) d h = let e : length (m ∷ (n ∷ ms)) - 1 ≡ suc (length (n ∷ ms) - 1) = omega arith in ap (λ k. (get_or (m ∷ (n ∷ ms)) k d).key) e ∙ last_is (n ∷ ms) d (omega arith)
+-- ---- the whole
+pub six_parts : (none one two three four five six a b c d e f : List ℕ) → none ≡ [] → one ≡ none ++ a → two ≡ one ++ b → three ≡ two ++ c → four ≡ three ++ d → five ≡ four ++ e → six ≡ five ++ f → six ≡ a ++ b ++ c ++ d ++ e ++ f
+six_parts none one two three four five six a b c d e f empty first second third fourth fifth sixth =
+    let to_one : one ≡ a = first ∙ ap (λ l. l ++ a) empty in
+    let to_two : two ≡ a ++ b = second ∙ ap (λ l. l ++ b) to_one in
+    let to_three : three ≡ a ++ b ++ c = third ∙ ap (λ l. l ++ c) to_two in
+    let to_four : four ≡ a ++ b ++ c ++ d = fourth ∙ ap (λ l. l ++ d) to_three in
+    let to_five : five ≡ a ++ b ++ c ++ d ++ e = fifth ∙ ap (λ l. l ++ e) to_four in
+    sixth ∙ ap (λ l. l ++ f) to_five

@@ -15,6 +15,8 @@ use Rattle.host_tree.specs.Forest.{IsUsablePair}
 use Rattle.host_tree.specs.Order.{HaveSamePairs}
 use Rattle.host_tree.specs.declared.parent.Parent.{Parent}
 use Rattle.host_tree.specs.declared.parent.Parent.TheVariants.{Root, Child}
+use Rattle.report_views.specs.CallLines.{call_lines}
+use Rattle.report_views.specs.TimeLines.{time_lines}
 use Rattle.report_views.specs.Report.{count_from, deviation, hosts_part, is_map, merge_part, messages_line, pair_line, pair_lines, pair_lines_of, tree_line, tree_lines, yes_or_no}
 use Rattle.report_views.specs.SameReport.{AreSameTrees, HaveOneReport, HaveSameSlopes}
 use Rattle.report_views.proofs.ReportLines.{same_lines}
@@ -76,7 +78,7 @@ same_tree host (Child p m) (Child q n) same =
     ap (λ k. child_line host k (deviation m.steep.slope) (deviation m.flat.slope)) same.0
     ∙ ap₂ (child_line host q) (same_deviation m.steep.slope n.steep.slope same.1) (same_deviation m.flat.slope n.flat.slope same.2)
 
-same_trees : (parents others : List Parent) → AreSameTrees parents others → tree_lines parents ≡ tree_lines others
+pub same_trees : (parents others : List Parent) → AreSameTrees parents others → tree_lines parents ≡ tree_lines others
 same_trees parents others same =
     let count = same.count in
     same_lines (λ host. tree_line host (slice_get parents host)) (λ host. tree_line host (slice_get others host)) 0 (length parents) (λ host low high.
@@ -88,4 +90,4 @@ same_trees parents others same =
 -- ---- the whole
 pub one_report : HaveOneReport
 one_report hosts matched ambiguous fits others parents more merged placed drift pairs trees =
-    ap₂ (λ a b. hosts_part hosts drift ++ (messages_line matched ambiguous ++ a ++ b) ++ merge_part matched merged placed ++ codes "end\n") (same_pairs (length hosts) (count_from matched) fits others pairs) (same_trees parents more trees)
+    ap₂ (λ a b. hosts_part hosts drift ++ (messages_line matched ambiguous ++ a ++ b) ++ merge_part matched merged placed ++ time_lines merged ++ flat_map call_lines hosts ++ codes "end\n") (same_pairs (length hosts) (count_from matched) fits others pairs) (same_trees parents more trees)

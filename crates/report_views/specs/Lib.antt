@@ -6,4 +6,8 @@ pub mod AnswersText
 pub mod Pieces
 pub mod Report
 pub mod SameReport
+pub mod Made
 pub mod Stretches
+pub mod Ordered
+pub mod TimeLines
+pub mod CallLines

@@ -19,6 +19,9 @@ use Rattle.host_tree.specs.declared.parent.Parent.{Parent}
 use Rattle.host_tree.specs.declared.parent.Parent.TheVariants.{Root, Child}
 use Rattle.host_merge.specs.declared.placed.Placed.{Placed}
 use Rattle.host_merge.specs.Placed.{inverted_among}
+use Rattle.state_times.specs.Times.{first_key, last_key}
+use Rattle.report_views.specs.CallLines.{call_lines}
+use Rattle.report_views.specs.TimeLines.{time_lines}
 
 -- ---- what was read of each host
 
@@ -139,15 +142,6 @@ inverted_line (Some m) = codes "inverted-message " ++ decimal m.from ++ 32 ∷ d
 abbrev pub inverted_lines : List Message → List ℕ → List ℕ
 inverted_lines matched numbers = codes "inverted " ++ decimal (length numbers) ++ 10 ∷ flat_map (λ k. inverted_line (slice_get matched k)) numbers
 
-abbrev pub first_key : List Merged → ℕ
-first_key [] = 0
-first_key (m ∷ ms) = m.key
-
-abbrev pub last_key : List Merged → ℕ
-last_key [] = 0
-last_key (m ∷ []) = m.key
-last_key (m ∷ (n ∷ ms)) = last_key (n ∷ ms)
-
 -- the first and the last key of the merge; 0 and 0 where it is empty
 abbrev pub window_line : List Merged → List ℕ
 window_line merged = codes "window " ++ decimal (first_key merged) ++ 32 ∷ decimal (last_key merged) ++ 10 ∷ []
@@ -169,7 +163,7 @@ merge_part matched merged placed = inverted_lines matched (inverted_among placed
 
 abbrev pub report_text : List HostEvents → List Message → ℕ → List Fit → List Parent → List Merged → List Placed → ℕ → List ℕ
 report_text hosts matched ambiguous fits parents merged placed drift =
-    hosts_part hosts drift ++ clocks_part (length hosts) matched ambiguous fits parents ++ merge_part matched merged placed ++ codes "end\n"
+    hosts_part hosts drift ++ clocks_part (length hosts) matched ambiguous fits parents ++ merge_part matched merged placed ++ time_lines merged ++ flat_map call_lines hosts ++ codes "end\n"
 
 -- ---- what is counted on the way
 

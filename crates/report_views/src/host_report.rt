@@ -1,21 +1,26 @@
 //! The report on hosts that were brought to one clock.
 ghost use Rattle.std.specs.Prelude.{◌≡◌, ◌++◌, ◌*◌, ◌^◌, ◌<◌, ◌≤◌, ◌∷◌, [], All, IfOk, OnOk, codes, flat_map, length, slice_get};
 ghost use Rattle.std.specs.Fmt.{decimal};
+ghost use Rattle.trace_types.specs.Order.{RiseFrom};
 ghost use Rattle.host_tree.specs.Points.{IsBetween};
-ghost use Rattle.report_views.specs.Report.{clocks_part, first_key, host_line, hosts_part, inverted_line, inverted_lines, last_key, lost_line, merge_part, messages_line, refused_line, refused_lines, report_text, window_line};
+ghost use Rattle.report_views.specs.Report.{clocks_part, host_line, hosts_part, inverted_line, inverted_lines, lost_line, merge_part, messages_line, refused_line, refused_lines, report_text, window_line};
 
+use crate::call_lines::write_calls;
 use crate::cause_word::cause_word;
 use crate::clock_lines::{write_pairs, write_trees};
 use crate::marks::marks_of;
+use crate::time_lines::write_times;
 use host_merge::{Placed, inverted};
 use host_tree::{Parent, Parents};
 use hull_lines::Fit;
 use message_match::{Message, Messages};
+use state_times::{first_key, last_key};
 use std::alloc::Global;
 use std::io::Write;
 use trace_types::{HostEvents, Merged, OutOfMemory, RefusedPacket, write_byte_text};
 
-/// The report: what was read of each host, how their clocks fit, and which messages stand the wrong way round in the merge.
+/// The report: what was read of each host, how their clocks fit, which messages stand the wrong way round in the merge,
+/// how busy each processor was, how long each thread ran, and which system calls were made.
 /// `drift` is in parts per million. The only error is lack of memory.
 pub fn report(
     alloc: Global,
@@ -31,12 +36,15 @@ pub fn report(
     requires square { length fits.now ≡ length hosts.now * length hosts.now }
     requires between { All (IsBetween (length hosts.now)) messages.now.matched.items }
     requires placed { length placed.now < 2 ^ 32 }
+    requires rises { RiseFrom 0 merged.now }
     ensures { IfOk result (λ text. text.items ≡ report_text hosts.now messages.now.matched.items messages.now.ambiguous fits.now forest.now.items merged.now placed.now drift) }
 {
     let mut text = Vec::new(alloc);
     write_hosts(hosts, drift, &mut text)?;
     write_clocks(alloc, hosts.len(), messages, fits, forest, &mut text)?;
     write_merge(alloc, &messages.matched, merged, placed, &mut text)?;
+    write_times(alloc, merged, &mut text)?;
+    write_calls(alloc, hosts, &mut text)?;
     text.extend_from_slice(b"end\n")?;
     Ok(text)
 }
@@ -161,7 +169,7 @@ fn write_clocks(
     write_trees(forest, out)
 }
 
-fn write_messages_line(messages: &Messages, out: &mut Vec<u8>) -> Result<(), OutOfMemory>
+pub(crate) fn write_messages_line(messages: &Messages, out: &mut Vec<u8>) -> Result<(), OutOfMemory>
     ensures { OnOk result (out.new.items ≡ out.old.items ++ messages_line messages.now.matched.items messages.now.ambiguous) }
 {
     let matched = messages.matched.len();
@@ -226,22 +234,4 @@ fn write_window(merged: &[Merged], out: &mut Vec<u8>) -> Result<(), OutOfMemory>
     let first = first_key(merged);
     let last = last_key(merged);
     writeln!(out, "window {first} {last}").map_err(|_| OutOfMemory)
-}
-
-fn first_key(merged: &[Merged]) -> u64
-    ensures { result ≡ first_key merged.now }
-{
-    match merged {
-        [first, ..] => first.key,
-        [] => 0,
-    }
-}
-
-fn last_key(merged: &[Merged]) -> u64
-    ensures { result ≡ last_key merged.now }
-{
-    match merged {
-        [.., last] => last.key,
-        [] => 0,
-    }
 }

@@ -2,20 +2,24 @@
 #![tactic(auto)]
 
 mod answers;
+mod call_lines;
 mod call_name;
 mod cause_word;
 mod clock_lines;
 mod events;
 mod host_report;
 pub mod laws;
+mod made;
 mod marks;
 mod pieces;
 mod rows;
 mod state;
+mod time_lines;
 mod value_text;
 
 pub use answers::answers_text;
 pub use events::events_text;
 pub use host_report::report;
+pub use made::made_text;
 pub use pieces::pieces_text;
 pub use state::state_text;
