@@ -12,7 +12,7 @@ use Rattle.history_core.specs.declared.question.Question.{Question}
 use Rattle.command_words.specs.declared.command.Command.{Command}
 use Rattle.command_words.specs.declared.command.Command.TheVariants.{Plain}
 use Rattle.command_words.specs.declared.command.PlainCommand.{PlainCommand}
-use Rattle.command_words.specs.declared.command.PlainCommand.TheVariants.{Check, Report, Events, State, Ask, Path}
+use Rattle.command_words.specs.declared.command.PlainCommand.TheVariants.{Check, Report, Events, State, Ask, Path, Make}
 use Rattle.command_words.specs.declared.command.Input.{Input}
 use Rattle.command_words.specs.declared.command.Input.TheVariants as input
 use Rattle.command_words.proofs.OneCommand.{same_command}
@@ -21,6 +21,7 @@ use Rattle.hosttrace.specs.Clusters.{IsGoodCluster, IsWithinLimits}
 use Rattle.hosttrace.specs.Folders.{FILES_LIMIT, MAX_HOSTS, METADATA_LIMIT, AreRead, HasFewNames, HasManyNames, IsRead, metadata_of}
 use Rattle.hosttrace.specs.Hosts.{AreTraces}
 use Rattle.hosttrace.specs.Inputs.{IsList, AreAsked}
+use Rattle.hosttrace.specs.Making.{made_files, made_folders}
 use Rattle.hosttrace.specs.Means.{AreChecked, IsGood, IsGoodInput}
 use Rattle.hosttrace.specs.Outcome.{Means, PlainMeans, IsValid, IsFaultless, IsOutcome, IsPlainOutcome}
 use Rattle.hosttrace.specs.Refusals.{CheckRefuses, ClusterRefuses, FoldersRefuse, HostsRefuse, InputRefuses, IsCrowd, LimitsRefuse, ListRefuses, MetadataRefuses, NamesRefuse, QuestionsRefuse, Refuses, SizeRefuses, StreamRefuses, StreamsRefuse, ThreadRefuses, TracesRefuse}
@@ -216,6 +217,7 @@ good (Ask source questions once) files refusal (inl h) g = good_input source fil
 good (Ask source questions once) files refusal (inr h) g = good_questions (bytes_of files [] questions) refusal h.1 g.1.0 g.1.1
 good (Path source host tid from to) files refusal (inl h) g = good_input source files refusal h g.0
 good (Path source host tid from to) files refusal (inr (merged, placed, is, h)) g = good_thread merged host tid refusal h (g.1 merged placed is)
+good (Make number hosts rounds) files refusal h g = good_cluster (made_files number hosts rounds) (made_folders hosts) refusal h g
 
 plain_complete : (command : PlainCommand) (seen : Seen) (status : Status) → PlainMeans command seen status → (files : Files) → seen.store.files ≡ Some files → IsGood command files → IsFaultless seen → (status ≡ Done) ⊎ (status ≡ NoMemory)
 plain_complete command seen Done m files e g f = inl refl

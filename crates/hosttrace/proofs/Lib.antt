@@ -10,8 +10,9 @@ pub mod Texts
 pub mod PathTexts
 pub mod StreamsRead
 pub mod TraceFiles
-pub mod ReadFolders
+pub mod DeclaredFolders
 pub mod Clustered
+pub mod MadeTraces
 pub mod Alone
 pub mod OneAsking
 pub mod OneCluster

@@ -13,7 +13,7 @@ use Rattle.report_views.specs.StateText.{IsStateText, row_text}
 use Rattle.command_words.specs.declared.command.Input.{Input}
 use Rattle.command_words.specs.declared.command.Input.TheVariants as input
 use Rattle.command_words.specs.declared.command.PlainCommand.{PlainCommand}
-use Rattle.command_words.specs.declared.command.PlainCommand.TheVariants.{Ask, Check, Events, Path, Report, State}
+use Rattle.command_words.specs.declared.command.PlainCommand.TheVariants.{Ask, Check, Events, Make, Path, Report, State}
 use Rattle.trace_types.specs.declared.event.Merged.{Merged}
 use Rattle.trace_types.specs.declared.host.HostEvents.{HostEvents}
 use Rattle.host_merge.specs.declared.placed.Placed.{Placed}
@@ -22,6 +22,7 @@ use Rattle.host_sync.specs.Laws.{IsOneAnswer}
 use Rattle.host_sync.specs.Synced.{Synced}
 use Rattle.hosttrace.specs.Clusters.{AreSyncedTraces, IsCluster, IsInput}
 use Rattle.hosttrace.specs.Hosts.{AreTraces, host_lines}
+use Rattle.hosttrace.specs.Making.{IsMakeOutput, made_files, made_folders}
 use Rattle.hosttrace.specs.Means.{IsAskOutput, IsCheckOutput, IsEventsOutput, IsReportOutput, IsGood, IsGoodInput, IsOutput, IsStateOutput}
 use Rattle.hosttrace.specs.Paths.{IsPathOutput, IsPathText, IsPlacedInput}
 use Rattle.hosttrace.specs.Refusals.{Refuses}
@@ -31,7 +32,7 @@ use Rattle.hosttrace.proofs.OneAsking.{one_asking}
 use Rattle.hosttrace.proofs.Clustered.{can_sync}
 use Rattle.hosttrace.proofs.OneCluster.{good_traces, one_found, one_listing}
 use Rattle.hosttrace.proofs.OnePath.{one_places, same_path_text}
-use Rattle.hosttrace.proofs.OneReport.{one_report}
+use Rattle.hosttrace.proofs.OneReport.{one_report, one_summary}
 use Rattle.hosttrace.proofs.OneSync.{one_synced, same_names}
 
 -- ---- one answer of folders
@@ -57,6 +58,11 @@ one_report_text files dirs drift a b h g =
     let same = one_answer files dirs drift h.found g.found h.synced g.synced h.traces g.traces in
     let found = one_found files dirs drift drift h.found g.found h.synced g.synced h.traces g.traces in
     h.is_text ∙ (one_report drift h.found g.found h.synced g.synced found same ∙ sym g.is_text)
+
+one_make_text : (number hosts rounds : ℕ) (a b : List ℕ) → IsMakeOutput number hosts rounds a → IsMakeOutput number hosts rounds b → a ≡ b
+one_make_text number hosts rounds a b h g =
+    let same = one_answer (made_files number hosts rounds) (made_folders hosts) 1000 h.found g.found h.synced g.synced h.traces g.traces in
+    h.is_text ∙ (one_summary hosts rounds h.found h.synced g.synced same ∙ sym g.is_text)
 
 -- ---- one trace of an input
 
@@ -116,6 +122,7 @@ one_text (Events folders drift) files a b h g = one_events_text files folders dr
 one_text (State source at) files a b h g = one_state_text files source at a b h g
 one_text (Ask source questions once) files a b h g = one_answers_text files source questions a b h g
 one_text (Path source host tid from to) files a b h g = one_path_text files source host tid from to a b h g
+one_text (Make number hosts rounds) files a b h g = one_make_text number hosts rounds a b h g
 
 -- ---- files that have a text are good
 
@@ -140,6 +147,7 @@ good_files (Events folders drift) files text h = good_traces files folders drift
 good_files (State source at) files text h = good_input files source h.trace h.is_input
 good_files (Ask source questions once) files text h = (good_input files source h.trace h.is_input, (h.asked, h.are_asked))
 good_files (Path source host tid from to) files text h = good_path files source host tid from to text h
+good_files (Make number hosts rounds) files text h = good_traces (made_files number hosts rounds) (made_folders hosts) 1000 h.found h.synced h.traces
 
 pub never_refused : (command : PlainCommand) (files : Files) (text : List ℕ) (refusal : Refusal) → IsOutput command files text → Refuses command files refusal → ⊥
 never_refused command files text refusal h refused = good command files refusal refused (good_files command files text h)

@@ -7,9 +7,10 @@ pub mod Folders
 pub mod Hosts
 pub mod Streams
 pub mod Read
-pub mod ReadFolders
+pub mod DeclaredFolders
 pub mod Clusters
 pub mod Paths
+pub mod Making
 pub mod Refusals
 pub mod Means
 pub mod Outcome

@@ -20,13 +20,14 @@ use Rattle.report_views.specs.Report.{report_text}
 use Rattle.report_views.specs.StateText.{IsStateText}
 use Rattle.wait_graph.specs.Named.{IsNamed}
 use Rattle.command_words.specs.declared.command.PlainCommand.{PlainCommand}
-use Rattle.command_words.specs.declared.command.PlainCommand.TheVariants.{Check, Report, Events, State, Ask, Path}
+use Rattle.command_words.specs.declared.command.PlainCommand.TheVariants.{Check, Report, Events, State, Ask, Path, Make}
 use Rattle.command_words.specs.declared.command.Input.{Input}
 use Rattle.command_words.specs.declared.command.Input.TheVariants as input
 use Rattle.hosttrace.specs.Clusters.{AreSyncedTraces, IsGoodCluster, IsInput, NoneInvertedInTrees, SendsFirst}
 use Rattle.hosttrace.specs.Folders.{MAX_HOSTS, AreRead, metadata_of}
 use Rattle.hosttrace.specs.Hosts.{AreTraces, host_lines}
 use Rattle.hosttrace.specs.Inputs.{IsList, AreAsked}
+use Rattle.hosttrace.specs.Making.{IsMakeOutput, made_files, made_folders}
 use Rattle.hosttrace.specs.Paths.{IsPathOutput, IsPlacedInput}
 
 -- a line for each folder, with what all bytes of its metadata declare
@@ -83,7 +84,7 @@ pub record IsAskOutput (files : Files) (source : Input) (questions text : List �
   pub are_asked : AreAsked (bytes_of files [] questions) asked
   pub is_text : text ≡ flat_map (asked_text (names_at trace.names.items) (state_at trace.events.items)) asked
 
--- the text of a command over these files
+-- the text of a command over these files; made traces are not among them
 abbrev pub IsOutput : PlainCommand → Files → List ℕ → Type 0
 IsOutput (Check folders) files text = IsCheckOutput files folders text
 IsOutput (Report folders drift) files text = IsReportOutput files folders drift text
@@ -91,6 +92,7 @@ IsOutput (Events folders drift) files text = IsEventsOutput files folders drift 
 IsOutput (State source at) files text = IsStateOutput files source at text
 IsOutput (Ask source questions once) files text = IsAskOutput files source questions text
 IsOutput (Path source host tid from to) files text = IsPathOutput files source host tid from to text
+IsOutput (Make number hosts rounds) files text = IsMakeOutput number hosts rounds text
 
 -- the files are good: the command has a text over them
 abbrev pub IsGood : PlainCommand → Files → Type 0
@@ -100,3 +102,4 @@ IsGood (Events folders drift) files = IsGoodCluster files folders
 IsGood (State source at) files = IsGoodInput source files
 IsGood (Ask source questions once) files = IsGoodInput source files × ((asked : List Question) × AreAsked (bytes_of files [] questions) asked)
 IsGood (Path source host tid from to) files = IsGoodInput source files × ((merged : List Merged) (placed : List Placed) → IsPlacedInput source files merged placed → IsNamed merged host tid)
+IsGood (Make number hosts rounds) files = IsGoodCluster (made_files number hosts rounds) (made_folders hosts)

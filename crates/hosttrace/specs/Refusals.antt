@@ -12,7 +12,7 @@ use Rattle.event_list.specs.declared.parsed_line.ParsedLine.{ParsedLine}
 use Rattle.history_core.specs.declared.question.Question.{Question}
 use Rattle.event_list.specs.declared.trace.MergedTrace.{MergedTrace}
 use Rattle.command_words.specs.declared.command.PlainCommand.{PlainCommand}
-use Rattle.command_words.specs.declared.command.PlainCommand.TheVariants.{Check, Report, Events, State, Ask, Path}
+use Rattle.command_words.specs.declared.command.PlainCommand.TheVariants.{Check, Report, Events, State, Ask, Path, Make}
 use Rattle.command_words.specs.declared.command.Input.{Input}
 use Rattle.command_words.specs.declared.command.Input.TheVariants as input
 use Rattle.host_merge.specs.declared.placed.Placed.{Placed}
@@ -20,6 +20,7 @@ use Rattle.wait_graph.specs.Named.{IsNamed}
 use Rattle.hosttrace.specs.Clusters.{IsInput}
 use Rattle.hosttrace.specs.Folders.{FILES_LIMIT, MAX_HOSTS, METADATA_LIMIT, AreRead, HasFewNames, HasManyNames, HasMetadata, IsRead, metadata_of}
 use Rattle.hosttrace.specs.Inputs.{LIST_LIMIT}
+use Rattle.hosttrace.specs.Making.{made_files, made_folders}
 use Rattle.hosttrace.specs.Paths.{IsPlacedInput}
 use Rattle.hosttrace.specs.Questions.{QUESTION_LIMIT, is_feed, AreQuestions, IsFirstBadQuestion}
 use Rattle.hosttrace.specs.Streams.{AreFolders, AreHostsOf, AreStreamNames, IsFolder, StreamFits, folder_size, metadata_size, size_of}
@@ -163,6 +164,10 @@ AskRefuses files source questions refusal = InputRefuses source files refusal �
 abbrev pub PathRefuses : Files → Input → ℕ → ℕ → Refusal → Type 0
 PathRefuses files source host tid refusal = InputRefuses source files refusal ⊎ ((merged : List Merged) × (placed : List Placed) × IsPlacedInput source files merged placed × ThreadRefuses merged host tid refusal)
 
+-- `make`: the folders of made traces
+abbrev pub MakeRefuses : ℕ → ℕ → ℕ → Refusal → Type 0
+MakeRefuses number hosts rounds refusal = ClusterRefuses (made_files number hosts rounds) (made_folders hosts) refusal
+
 -- each command
 abbrev pub Refuses : PlainCommand → Files → Refusal → Type 0
 Refuses (Check folders) = λ files refusal. CheckRefuses files folders refusal
@@ -171,3 +176,4 @@ Refuses (Events folders drift) = λ files refusal. ClusterRefuses files folders 
 Refuses (State source at) = λ files refusal. InputRefuses source files refusal
 Refuses (Ask source questions once) = λ files refusal. AskRefuses files source questions refusal
 Refuses (Path source host tid from to) = λ files refusal. PathRefuses files source host tid refusal
+Refuses (Make number hosts rounds) = λ files refusal. MakeRefuses number hosts rounds refusal

@@ -124,7 +124,8 @@ fn synced_hosts(
 
 /// The report on a cluster.
 pub fn report_of(alloc: Global, cluster: &Cluster, drift: u32) -> Result<Vec<u8>, OutOfMemory>
-    requires { IsSyncedCluster cluster.now.hosts.items drift (synced_of cluster.now.synced) }
+    requires synced { IsSyncedCluster cluster.now.hosts.items drift (synced_of cluster.now.synced) }
+    requires merge { IsMerge cluster.now.synced.merged.items }
     ensures { IfOk result (λ text. let s = synced_of cluster.now.synced in text.items ≡ report_text cluster.now.hosts.items s.matched s.ambiguous s.fits s.parents s.merged s.placed drift) }
 {
     let synced = &cluster.synced;

@@ -11,6 +11,7 @@ use crate::clusters::{read_cluster, read_merge, report_of};
 use crate::folders::{is_crowd, read_folders};
 use crate::hosts::{check_text, read_hosts};
 use crate::inputs::{read_asked, read_input};
+use crate::making::text_of_make;
 use crate::paths::{Window, text_of_path};
 use crate::status::{Limit, Refusal, Status};
 use crate::status_line::write_status;
@@ -129,6 +130,11 @@ fn text_of<S: Store>(
             };
             text_of_path(threads, alloc, input, window, store)
         }
+        PlainCommand::Make {
+            number,
+            hosts,
+            rounds,
+        } => text_of_make(threads, alloc, *number, *hosts, *rounds),
     }
 }
 

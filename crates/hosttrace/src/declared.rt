@@ -4,7 +4,7 @@ ghost use Rattle.std.specs.List.{AllByRecursion};
 ghost use Rattle.decode_pool.specs.Limits.{HasSmallFiles};
 ghost use Rattle.hosttrace.specs.Folders.{MAX_HOSTS};
 ghost use Rattle.hosttrace.specs.Read.{AreDeclared, HasSmallStreams, IsDeclared};
-ghost use Rattle.hosttrace.specs.ReadFolders.{HasReadMetadata};
+ghost use Rattle.hosttrace.specs.DeclaredFolders.{HasReadMetadata};
 ghost use Rattle.hosttrace.specs.Refusals.{HostsRefuse, MetadataRefuses};
 ghost use Rattle.hosttrace.specs.Seen.{FailsOf};
 
@@ -21,7 +21,7 @@ use type_table::TraceMeta;
 
 // The files of a folder, and what reading its metadata gave.
 #[derive(Drop)]
-struct ReadFolder {
+struct DeclaredFolder {
     folder: FolderFiles,
     meta: Result<TraceMeta, MetadataError>,
 }
@@ -39,40 +39,40 @@ pub fn declared_hosts(
     ensures small { IfOk result (λ hosts. AllByRecursion HasSmallFiles hosts.items) }
     ensures fails { IfErr result (λ status. FailsOf (HostsRefuse 0 (map (λ r. r.metadata) read.items)) status) }
 {
-    let folders = read_folders(threads, alloc, read)?;
+    let folders = read_metas(threads, alloc, read)?;
     numbered_hosts(alloc, folders)
 }
 
 // The folders in their order, each with what reading its metadata gave.
-fn read_folders(
+fn read_metas(
     threads: &(impl Threads + Sync),
     alloc: Global,
     read: Vec<FolderFiles>,
-) -> Result<Vec<ReadFolder>, OutOfMemory>
+) -> Result<Vec<DeclaredFolder>, OutOfMemory>
     ensures same { IfOk result (λ folders. map (λ f. f.folder) folders.items ≡ read.items) }
     ensures each { IfOk result (λ folders. AllByRecursion HasReadMetadata folders.items) }
 {
-    let folders: Vec<ReadFolder> = read
+    let folders: Vec<DeclaredFolder> = read
         .into_par_iter()
         .with_min_len(1)
         .map(
-            |folder: FolderFiles| -> ReadFolder
+            |folder: FolderFiles| -> DeclaredFolder
                 ensures { (result.folder ≡ folder) × HasReadMetadata result }
-            { read_folder(alloc, folder) },
+            { read_meta(alloc, folder) },
         )
         .collect(threads, alloc)?;
     Ok(folders)
 }
 
-fn read_folder(alloc: Global, folder: FolderFiles) -> ReadFolder
+fn read_meta(alloc: Global, folder: FolderFiles) -> DeclaredFolder
     ensures { (result.folder ≡ folder) × HasReadMetadata result }
 {
     let meta = read_metadata(alloc, folder.metadata.as_slice());
-    ReadFolder { folder, meta }
+    DeclaredFolder { folder, meta }
 }
 
 // The hosts of folders, numbered from 0, or the status that tells of the first metadata that is refused.
-fn numbered_hosts(alloc: Global, folders: Vec<ReadFolder>) -> Result<Vec<HostFiles>, Status>
+fn numbered_hosts(alloc: Global, folders: Vec<DeclaredFolder>) -> Result<Vec<HostFiles>, Status>
     requires few { length folders.items ≤ MAX_HOSTS }
     requires each { AllByRecursion HasReadMetadata folders.items }
     ensures hosts { IfOk result (λ hosts. AreDeclared 0 (map (λ f. f.folder) folders.items) hosts.items) }
@@ -88,7 +88,7 @@ fn numbered_hosts(alloc: Global, folders: Vec<ReadFolder>) -> Result<Vec<HostFil
 }
 
 // The host of this number, or the status that tells why its metadata is refused. The stream files aren't copied.
-fn declared_host(host: u32, read: ReadFolder) -> Result<HostFiles, Status>
+fn declared_host(host: u32, read: DeclaredFolder) -> Result<HostFiles, Status>
     requires { HasReadMetadata read }
     ensures host { IfOk result (λ h. IsDeclared host read.folder h) }
     ensures fails { IfErr result (λ status. FailsOf (MetadataRefuses host read.folder.metadata) status) }

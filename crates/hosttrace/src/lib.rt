@@ -8,6 +8,7 @@ mod folders;
 mod hosts;
 mod inputs;
 mod laws;
+mod making;
 mod paths;
 mod questions;
 mod reading;

@@ -5,9 +5,11 @@
 //! stream files of a trace hold, `decode METADATA FILE..` how long cutting and decoding them takes, and
 //! `pool METADATA FILE..` how long making the host's list of events takes, on all processors.
 //! `matches EVENTS..` makes so many network events in memory, and prints how long matching them takes.
+//! `made FOLDER NUMBER HOSTS ROUNDS` writes the folders of made traces into FOLDER, which is there.
 #![tactic(auto)]
 
 mod counts;
+mod made;
 mod messages;
 mod pool;
 mod streams;
@@ -27,6 +29,7 @@ fn main(rt: HostRuntime) -> anyhow::Result<ExitCode> {
     match command.as_str() {
         "count" | "time" => each_metadata(&rt, command.as_str(), files),
         "matches" => each_number(&rt, files),
+        "made" => write_made(&rt, files),
         "pool" => match files.split_first() {
             Some((metadata, files)) => {
                 pool::print_pool_time(&rt, &rt, metadata.as_str(), files)?;
@@ -56,6 +59,20 @@ fn each_number(rt: &HostRuntime, numbers: &[String]) -> anyhow::Result<ExitCode>
     Ok(ExitCode::SUCCESS)
 }
 
+fn write_made(rt: &HostRuntime, words: &[String]) -> anyhow::Result<ExitCode> {
+    let [folder, number, hosts, rounds] = words else {
+        return usage(rt);
+    };
+    made::write_made(
+        rt,
+        folder.as_str(),
+        number.as_str(),
+        hosts.as_str(),
+        rounds.as_str(),
+    )?;
+    Ok(ExitCode::SUCCESS)
+}
+
 fn each_trace(rt: &HostRuntime, command: &str, files: &[String]) -> anyhow::Result<ExitCode> {
     let Some((metadata, files)) = files.split_first() else {
         return usage(rt);
@@ -70,7 +87,7 @@ fn each_trace(rt: &HostRuntime, command: &str, files: &[String]) -> anyhow::Resu
 
 fn usage(rt: &HostRuntime) -> anyhow::Result<ExitCode> {
     eprintln!(rt;
-        "usage: hosttrace_bench count|time FILE.. | events|decode|pool METADATA FILE.. | matches EVENTS.."
+        "usage: hosttrace_bench count|time FILE.. | events|decode|pool METADATA FILE.. | matches EVENTS.. | made FOLDER NUMBER HOSTS ROUNDS"
     )?;
     Ok(ExitCode::FAILURE)
 }

@@ -211,6 +211,8 @@ fn a_report_on_two_hosts(rt: HostRuntime) -> Result<(), Fail> {
         tree 1 root\n\
         inverted 0\n\
         window 1004 1007\n\
+        thread 1 7 %- running 0\n\
+        calls 1 openat 1\n\
         end\n",
     )?;
     refused(

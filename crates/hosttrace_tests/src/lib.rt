@@ -24,6 +24,8 @@ mod kind_runs;
 #[cfg(test)]
 mod lists;
 #[cfg(test)]
+mod make_runs;
+#[cfg(test)]
 mod many_events;
 #[cfg(test)]
 mod name_runs;

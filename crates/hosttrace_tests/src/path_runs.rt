@@ -1,8 +1,11 @@
 //! The path command, from words to text.
 use crate::harness::run_on;
 use hosttrace::{Refusal, Status};
+use std::alloc::AllocGlobal;
+use std::process::Abort;
 use std::str;
 use std::test::Fail;
+use std::thread::Threads;
 
 // Thread 10 waits for 11, which wakes it at 20, and 11 before that for 12, which wakes it at 15.
 const THREE_THREADS: &[u8] = b"hosttrace events 1\n\
@@ -28,38 +31,49 @@ const TWO_HOSTS: &[u8] = b"hosttrace events 1\n\
     19 0 0 19 soft-out 3\n\
     20 0 0 20 switch 0 a 20 0 10 A 20\n";
 
-#[test]
-fn a_waker_that_waited(rt: HostRuntime) -> Result<(), Fail> {
-    let line = "path --host 0 --tid 10 --from 5 --to 25 --list R";
-    let ran = run_on(&rt, line, "R", THREE_THREADS)?;
+// Runs a line over a list, which prints this text alone.
+fn prints<R: AllocGlobal + Threads + Sync + Abort>(
+    rt: &R,
+    line: &str,
+    name: &str,
+    list: &[u8],
+    text: &str,
+) -> Result<(), Fail> {
+    let ran = run_on(rt, line, name, list)?;
     assert_eq!(rt; ran.status, Status::Done);
-    assert_eq!(rt;
-        str::from_utf8(&ran.out)?,
-        "piece 5 10 0 10 running\n\
-         piece 10 12 0 11 running\n\
-         piece 12 15 0 12 running\n\
-         piece 15 20 0 11 running\n\
-         piece 20 25 0 10 running\n"
-    );
+    assert_eq!(rt; str::from_utf8(&ran.out)?, text);
     assert!(rt; ran.err.is_empty());
     Ok(())
 }
 
 #[test]
+fn a_waker_that_waited(rt: HostRuntime) -> Result<(), Fail> {
+    prints(
+        &rt,
+        "path --host 0 --tid 10 --from 5 --to 25 --list R",
+        "R",
+        THREE_THREADS,
+        "piece 5 10 0 10 running\n\
+         piece 10 12 0 11 running\n\
+         piece 12 15 0 12 running\n\
+         piece 15 20 0 11 running\n\
+         piece 20 25 0 10 running\n",
+    )
+}
+
+#[test]
 fn a_segment_between_hosts(rt: HostRuntime) -> Result<(), Fail> {
-    let line = "path --to=25 --from=5 --tid=10 --host=0 --list=S";
-    let ran = run_on(&rt, line, "S", TWO_HOSTS)?;
-    assert_eq!(rt; ran.status, Status::Done);
-    assert_eq!(rt;
-        str::from_utf8(&ran.out)?,
+    prints(
+        &rt,
+        "path --to=25 --from=5 --tid=10 --host=0 --list=S",
+        "S",
+        TWO_HOSTS,
         "piece 5 10 0 10 running\n\
          piece 10 14 1 20 running\n\
          piece 14 19 0 10 transit\n\
          piece 19 20 0 10 waiting\n\
-         piece 20 25 0 10 running\n"
-    );
-    assert!(rt; ran.err.is_empty());
-    Ok(())
+         piece 20 25 0 10 running\n",
+    )
 }
 
 #[test]

@@ -2,7 +2,7 @@
 use Rattle.std.specs.Prelude.{ℕ, ◌<◌, ◌≤◌, ◌^◌, List, length}
 use Rattle.std.specs.List.{AllByRecursion}
 use Rattle.trace_types.specs.Order.{RiseFrom}
-use Rattle.trace_types.specs.declared.limits.TheConstants.{MAX_EVENTS}
+use Rattle.trace_types.specs.declared.limits.TheConstants.{MAX_EVENTS, MAX_HOSTS}
 use Rattle.trace_types.specs.declared.event.Merged.{Merged}
 use Rattle.trace_types.specs.declared.host.HostEvents.{HostEvents}
 use Rattle.event_list.specs.Splits.{AreHostsFrom}
@@ -24,7 +24,7 @@ pub record IsReadTrace (trace : MergedTrace) : Type 0 where
   pub below : AllByRecursion (λ m. m.key < 2 ^ 62) trace.events.items
   pub few : length trace.events.items ≤ MAX_EVENTS
   pub have_names : AllByRecursion (λ m. m.event.host < length trace.names.items) trace.events.items
-  pub few_hosts : length trace.names.items ≤ 64
+  pub few_hosts : length trace.names.items ≤ MAX_HOSTS
 
 -- the messages among the hosts of a list, and where they stand in its merge
 pub record AreListPlaces (trace : MergedTrace) (placed : List Placed) : Type 0 where

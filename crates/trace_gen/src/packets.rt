@@ -1,5 +1,6 @@
 //! The packets of stream files.
-ghost use Rattle.std.specs.Prelude.{◌≡◌, ◌≤◌, ◌<◌, ◌++◌, ◌+◌, ◌-◌, ◌*◌, ◌^◌, IfOk, OnOk, length, replicate, slice_get};
+ghost use Rattle.std.specs.Prelude.{◌≡◌, ◌≤◌, ◌<◌, ◌++◌, ◌+◌, ◌-◌, ◌*◌, ◌^◌, IfOk, OnOk, length, replicate};
+ghost use Rattle.std.specs.Option.{option_copied};
 ghost use Rattle.trace_gen.specs.Layout.{clock_of, events_bytes, file_bytes, fields_bytes, head_fields, header, kind_fields, message_fields, name_start, packet, size_for, switch_fields};
 
 use crate::events::{MadeEvent, MadeKind};
@@ -43,8 +44,8 @@ fn put_packet(
     let bytes = events_bytes(alloc, events)?;
     let content = HEAD + bytes.len() as u64;
     let size = size_for(content);
-    let begin = first_clock(events);
-    let end = last_clock(events);
+    let begin = clock_of(events.first());
+    let end = clock_of(events.last());
     put_head(number, begin, end, content, size, out)?;
     out.extend_from_slice(&bytes)?;
     put_zeros(size - content, out)
@@ -60,20 +61,11 @@ fn size_for(content: u64) -> u64
     BLOCK * ((content + 4095) / BLOCK)
 }
 
-// The clocks of the first and the last event.
-fn first_clock(events: &[MadeEvent]) -> u64
-    ensures { result ≡ clock_of (slice_get events.now 0) }
+// An event's clock, 0 where there is none.
+fn clock_of(event: Option<&MadeEvent>) -> u64
+    ensures { result ≡ clock_of (option_copied event.entry) }
 {
-    match events.first() {
-        Some(event) => event.clock,
-        None => 0,
-    }
-}
-
-fn last_clock(events: &[MadeEvent]) -> u64
-    ensures { result ≡ clock_of (slice_get events.now (length events.now - 1)) }
-{
-    match events.last() {
+    match event {
         Some(event) => event.clock,
         None => 0,
     }

@@ -1,7 +1,7 @@
-use Rattle.std.proofs.Common.{◌≡◌, IfOk, map, subst}
-use Rattle.std.proofs.lemmas.Result.{IfErr-weaker, IfOk-weaker}
+use Rattle.std.proofs.Common.{subst}
+use Rattle.std.proofs.lemmas.Result.{IfOk-weaker}
 use Rattle.hosttrace.specs.Read.{AreDeclared}
-use Rattle.hosttrace.proofs.ReadFolders.{small_declared}
+use Rattle.hosttrace.proofs.DeclaredFolders.{small_declared}
 use Rattle.hosttrace.proofs.declared.declared_hosts.Goals as goal
 
 pub returns-clause-small : goal.returns-clause-small

@@ -1,9 +1,9 @@
-use Rattle.std.proofs.Common.{◌≡◌, ◌∙◌, ◌++◌, ◌∷◌, [], ◌+◌, length, map, sym, ap, subst, append_assoc, length-append, arith, rules, refl}
+use Rattle.std.proofs.Common.{◌≡◌, ◌∙◌, ◌++◌, ◌∷◌, [], length, map, sym, ap, subst, append_assoc, length-append, arith, rules}
 use Rattle.std.specs.List.{AllByRecursion}
 use Rattle.std.specs.Vec.Iter.{into_iter_items}
 use Rattle.hosttrace.specs.Read.{AreDeclared}
-use Rattle.hosttrace.specs.ReadFolders.{HasReadMetadata}
-use Rattle.hosttrace.proofs.ReadFolders.{folder_fails, folder_of, next_declared}
+use Rattle.hosttrace.specs.DeclaredFolders.{HasReadMetadata}
+use Rattle.hosttrace.proofs.DeclaredFolders.{folder_fails, folder_of, next_declared}
 use Rattle.hosttrace.proofs.declared.numbered_hosts.Goals as goal
 
 pub returns-in_err-declared_host-clause-fails : goal.returns-in_err-declared_host-clause-fails

@@ -3,8 +3,8 @@ use Rattle.std.specs.List.{AllByRecursion}
 use Rattle.std.specs.Vec.Iter.{into_iter_items, into_iter_len}
 use Rattle.hosttrace.specs.Folders.{MAX_HOSTS}
 use Rattle.hosttrace.specs.Read.{AreDeclared}
-use Rattle.hosttrace.specs.ReadFolders.{HasReadMetadata}
-use Rattle.hosttrace.proofs.ReadFolders.{folder_of}
+use Rattle.hosttrace.specs.DeclaredFolders.{HasReadMetadata}
+use Rattle.hosttrace.proofs.DeclaredFolders.{folder_of}
 use Rattle.hosttrace.proofs.declared.numbered_hosts.Given as goal
 
 abbrev pub invariant-loop-folder : goal.invariant-loop-folder

@@ -1,9 +1,9 @@
 use Rattle.std.proofs.Common.{◌≡◌, ◌∙◌, ap, map, subst, sym}
 use Rattle.std.specs.List.{AllByRecursion, AllZip}
 use Rattle.rayon.specs.Lists.{vec_items}
-use Rattle.hosttrace.specs.ReadFolders.{HasReadMetadata}
-use Rattle.hosttrace.proofs.ReadFolders.{all_read, folder_of, same_folders}
-use Rattle.hosttrace.proofs.declared.read_folders.Goals as goal
+use Rattle.hosttrace.specs.DeclaredFolders.{HasReadMetadata}
+use Rattle.hosttrace.proofs.DeclaredFolders.{all_read, folder_of, same_folders}
+use Rattle.hosttrace.proofs.declared.read_metas.Goals as goal
 
 pub returns-clause-same : goal.returns-clause-same
 returns-clause-same g c =
