@@ -10,13 +10,8 @@ use Rattle.std.specs.FinMap.{get, find, get-from_entries, get-insert, same_map, 
 use Rattle.std.proofs.lemmas.Cmp.{tied_itself}
 use Rattle.trace_types.specs.declared.value.Value.{Value}
 use Rattle.history_nodes.specs.declared.interval.Interval.{Interval}
-use Rattle.history_tree.specs.Records.{key_of, entry_of, map_of, with_interval, IsApart, AreApart, IsFree}
+use Rattle.history_tree.specs.Records.{IsMember, IsAt, key_of, entry_of, map_of, with_interval, IsApart, AreApart, IsFree}
 use Rattle.history_tree.proofs.Stored.{IsBetween}
-
--- the interval is one of these
-abbrev pub IsMember : Interval → List Interval → Type 0
-IsMember i [] = ⊥
-IsMember i (j ∷ js) = (j ≡ i) ⊎ IsMember i js
 
 pub member_has : (P : Interval → Type 0) (xs : List Interval) (i : Interval) → AllByRecursion P xs → IsMember i xs → P i
 member_has P [] i h m = absurd m
@@ -44,6 +39,14 @@ member_split i (x ∷ xs) ys (inr m) = by (member_split i xs ys m)
     by : IsMember i xs ⊎ IsMember i ys → IsMember i (x ∷ xs) ⊎ IsMember i ys
     by (inl g) = inl (inr g)
     by (inr g) = inr g
+
+-- of intervals that are apart no two of one number hold an instant
+pub apart_same : (xs : List Interval) (i j : Interval) (t : ℕ) → AreApart xs → IsMember i xs → IsMember j xs → i.number ≡ j.number → IsAt t i → IsAt t j → i ≡ j
+apart_same [] i j t h a b e p q = absurd a
+apart_same (x ∷ xs) i j t h (inl a) (inl b) e p q = sym a ∙ b
+apart_same (x ∷ xs) i j t h (inl a) (inr b) e p q = absurd (subst (λ (k : Interval). IsApart k j) a (member_has (IsApart x) xs j h.0 b) e t p q)
+apart_same (x ∷ xs) i j t h (inr a) (inl b) e p q = absurd (subst (λ (k : Interval). IsApart k i) b (member_has (IsApart x) xs i h.0 a) (sym e) t q p)
+apart_same (x ∷ xs) i j t h (inr a) (inr b) e p q = apart_same xs i j t h.1 a b e p q
 
 -- ---- keys
 abbrev pub alike : List ℕ → List ℕ → Bool

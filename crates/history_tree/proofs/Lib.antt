@@ -1,4 +1,6 @@
 pub mod Climbs
+pub mod Rows
+pub mod Shortening
 pub mod Steps
 pub mod Ranges
 pub mod Nesting
@@ -14,6 +16,9 @@ pub mod Placing
 pub mod Closing
 pub mod Opening
 pub mod Renewing
-pub mod Inserting
 pub mod Visiting
 pub mod Seeking
+pub mod Keeping
+pub mod Climbing
+pub mod Indexing
+pub mod Inserting

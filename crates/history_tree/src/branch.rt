@@ -5,20 +5,32 @@ ghost use Rattle.history_nodes.specs.Nodes.{node_at};
 ghost use Rattle.history_nodes.specs.declared.children.TheConstants.{MAX_CHILDREN};
 ghost use Rattle.history_tree.specs.Placement.{LeadUp, IsFirst, has_rooms, takes, with_root_node, all_ended, with_branch};
 ghost use Rattle.history_tree.specs.Climbing.{AreClimbed, AreOpen};
+ghost use Rattle.history_tree.specs.Shortcuts.{AreShortcuts};
 
+use crate::shortcuts::Shortcuts;
 use history_nodes::{Node, Nodes};
 
 /// Of a node and those above it the first that has room for a record and a child.
-pub fn first_with_rooms(nodes: &Nodes, from: Option<usize>) -> Option<usize>
+pub fn first_with_rooms(
+    nodes: &Nodes,
+    shortcuts: &mut Shortcuts,
+    from: Option<usize>,
+) -> Option<usize>
     requires climbed { AreClimbed nodes.now.nodes }
     requires from { ForSome from (λ n. n < length nodes.now.nodes) }
-    ensures { IsFirst has_rooms nodes.now.nodes from result }
+    requires shortcuts { AreShortcuts nodes.now.nodes shortcuts.old }
+    ensures first { IsFirst has_rooms nodes.now.nodes from result }
+    ensures shortcuts { AreShortcuts nodes.now.nodes shortcuts.new }
 {
-    let number = from?;
-    if has_rooms(nodes, number) {
-        return from;
+    let mut next = from;
+    while let Some(number) = next {
+        let free = shortcuts.pass_full(nodes, number);
+        if has_rooms(nodes, free) {
+            return Some(free);
+        }
+        next = nodes.shape(free).parent;
     }
-    first_with_rooms(nodes, nodes.shape(number).parent)
+    None
 }
 
 // Whether a node has room for a record and for a child.
@@ -30,16 +42,27 @@ fn has_rooms(nodes: &Nodes, number: usize) -> bool
 }
 
 /// Of a node and those above it the first that began by an instant and has room for a record.
-pub fn first_that_takes(nodes: &Nodes, from: Option<usize>, start: u64) -> Option<usize>
+pub fn first_that_takes(
+    nodes: &Nodes,
+    shortcuts: &mut Shortcuts,
+    from: Option<usize>,
+    start: u64,
+) -> Option<usize>
     requires climbed { AreClimbed nodes.now.nodes }
     requires from { ForSome from (λ n. n < length nodes.now.nodes) }
-    ensures { IsFirst (takes start) nodes.now.nodes from result }
+    requires shortcuts { AreShortcuts nodes.now.nodes shortcuts.old }
+    ensures first { IsFirst (takes start) nodes.now.nodes from result }
+    ensures shortcuts { AreShortcuts nodes.now.nodes shortcuts.new }
 {
-    let number = from?;
-    if takes(nodes, number, start) {
-        return from;
+    let mut next = from;
+    while let Some(number) = next {
+        let free = shortcuts.pass_full(nodes, number);
+        if takes(nodes, free, start) {
+            return Some(free);
+        }
+        next = nodes.shape(free).parent;
     }
-    first_that_takes(nodes, nodes.shape(number).parent, start)
+    None
 }
 
 // Whether a node began by an instant and has room for a record.

@@ -2,7 +2,9 @@
 #![tactic(auto)]
 
 mod branch;
+mod places;
 mod room;
+mod shortcuts;
 mod tree;
 mod visit;
 

@@ -10,7 +10,9 @@ ghost use Rattle.history_tree.specs.Placement.{IsPlaced};
 ghost use Rattle.history_tree.specs.Ways.{IsWay};
 
 use crate::branch::first_that_takes;
+use crate::places::{Place, Places};
 use crate::room::{found_or_root, make_ready};
+use crate::shortcuts::Shortcuts;
 use crate::visit::Visit;
 use history_nodes::{Interval, Node, Nodes, Reads};
 use std::alloc::Global;
@@ -25,16 +27,19 @@ pub struct Tree {
     root: usize,
     leaf: usize,
     greatest: u64,
+    places: Places,
+    shortcuts: Shortcuts,
 }
 
 impl Model for Tree {
-    ghost use Rattle.history_tree.specs.Tree.{NodeTree, IsTree, tree_of};
+    ghost use Rattle.history_tree.specs.Tree.{NodeTree, tree_of};
+    ghost use Rattle.history_tree.specs.Index.{IsEquipped};
 
     ghost Value = { NodeTree };
 
     ghost view = { λ t. tree_of t.nodes.nodes t.root t.leaf t.greatest };
 
-    ghost invariant = { λ t. IsTree (tree_of t.nodes.nodes t.root t.leaf t.greatest) };
+    ghost invariant = { λ t. IsEquipped (tree_of t.nodes.nodes t.root t.leaf t.greatest) t.places t.shortcuts };
 }
 
 impl Tree {
@@ -49,6 +54,8 @@ impl Tree {
             root: leaf,
             leaf,
             greatest: 0,
+            places: Places::new(alloc),
+            shortcuts: Shortcuts::new(alloc),
         })
     }
 
@@ -61,12 +68,26 @@ impl Tree {
     {
         let more = self.levels() + 2;
         self.nodes.reserve(more)?;
+        self.places.reserve(interval.number)?;
+        self.shortcuts.reach(self.nodes.len())?;
         let (leaf, greatest) = (self.leaf, self.greatest);
+        let (row, start) = (interval.number, interval.start);
         let end = greatest.max(interval.end);
-        let leaf = make_ready(&mut self.nodes, &mut self.root, leaf, greatest);
-        let found = first_that_takes(&self.nodes, Some(leaf), interval.start);
+        let leaf = make_ready(
+            &mut self.nodes,
+            &mut self.root,
+            &mut self.shortcuts,
+            leaf,
+            greatest,
+        );
+        let found = first_that_takes(&self.nodes, &mut self.shortcuts, Some(leaf), start);
         let number = found_or_root(&mut self.nodes, &mut self.root, found);
         self.nodes.put(number, interval);
+        let place = Place {
+            start,
+            node: number,
+        };
+        self.places.put(row, place);
         self.leaf = leaf;
         self.greatest = end;
         Ok(())
@@ -90,8 +111,7 @@ impl Tree {
         Visit::new(&self.nodes, t, self.root)
     }
 
-    /// The stored interval of a number that holds an instant, in ns. It reads at most one node of each level, and takes no
-    /// memory.
+    /// The stored interval of a number that holds an instant, in ns. It reads at most one node, and takes no memory.
     pub fn find(&self, number: usize, t: u64, reads: &mut Reads) -> Option<Interval>
         requires time { t < TIME_END }
         requires few { reads.old + levels_of self.now < 2 ^ 64 }
@@ -99,15 +119,11 @@ impl Tree {
         ensures none { IfNone result ((s e : ℕ) (v : Value) → get (content_of self.now.nodes) (number ∷ s ∷ []) ≡ Some (e, v) → s ≤ t → t ≤ e → ⊥) }
         ensures rises { reads.old ≤ reads.new }
         ensures few_reads { reads.new ≤ reads.old + levels_of self.now }
+        ensures one { reads.new ≤ reads.old + 1 }
     {
-        let mut visit = self.path(t);
-        while let Some(node) = visit.next() {
-            let found = self.nodes.node(node, reads).intervals.find(number, t);
-            if found.is_some() {
-                return found;
-            }
-        }
-        None
+        let place = self.places.latest(number, t)?;
+        let node = self.nodes.node(place.node, reads);
+        node.intervals.find(number, t)
     }
 }
 
@@ -116,7 +132,7 @@ mod tests {
     use super::*;
     use std::test::Fail;
 
-    // There is no second list of intervals beside the nodes.
+    // There is no second list of intervals beside the nodes: the index has their starts.
     #[test]
     fn a_tree_is_its_nodes(rt: HostRuntime) -> Result<(), Fail> {
         let Tree {
@@ -124,13 +140,18 @@ mod tests {
             root,
             leaf,
             greatest,
+            places,
+            shortcuts,
         } = Tree::new(rt.alloc())?;
         let nodes: Nodes = nodes;
         let numbers: (usize, usize) = (root, leaf);
         let greatest: u64 = greatest;
+        let place: Option<Place> = places.latest(0, 0);
+        let _shortcuts: Shortcuts = shortcuts;
         assert_eq!(rt; nodes.len(), 1);
         assert_eq!(rt; numbers, (0, 0));
         assert_eq!(rt; greatest, 0);
+        assert!(rt; place.is_none());
         Ok(())
     }
 }

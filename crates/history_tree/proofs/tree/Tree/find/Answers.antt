@@ -1,20 +1,28 @@
-use Rattle.std.proofs.Common.{find, sym, ap, ◌∙◌, subst}
+use Rattle.std.proofs.Common.{find, sym, ap, ◌∙◌}
 use Rattle.history_nodes.specs.declared.node.Node.{Node}
 use Rattle.history_nodes.specs.Intervals.{is_of}
-use Rattle.history_nodes.specs.Nodes.{node_at}
-use Rattle.history_tree.specs.Tree.{NodeTree, IsTree}
-use Rattle.history_tree.proofs.Seeking.{seeking_begins, seeking_there, seeking_ends, held_some}
+use Rattle.history_tree.specs.Tree.{tree_of}
+use Rattle.history_tree.proofs.Seeking.{held_some}
+use Rattle.history_tree.proofs.Indexing.{at_none, none_listed, none_found, place_there}
 use Rattle.history_tree.proofs.tree.Tree.find.Goals as goal
 
-pub loop-node-init : goal.loop-node-init
-loop-node-init c = seeking_begins c.args.self.now c.args.number c.args.t c.path-visit.result c.args.reads.now (subst IsTree c.self.view_is c.self.invariant) c.path-visit.ensures
+pub returns-in_err-place-clause-none : goal.returns-in_err-place-clause-none
+returns-in_err-place-clause-none c =
+    let t = tree_of c.self.inside.nodes.nodes c.self.inside.root c.self.inside.leaf c.self.inside.greatest in
+    at_none c.from_residual.result _ (rw (← c.self.view_is) (none_listed t c.self.inside.places c.args.number c.args.t c.self.invariant.indexed c.in_err-place.ensures.none))
 
-pub returns-then-is_some-clause-found : goal.returns-then-is_some-clause-found
-returns-then-is_some-clause-found c =
-    held_some c.args.self.now c.in-Some.node c.args.number c.args.t c.find-found.result (subst IsTree c.self.view_is c.self.invariant)
-    (seeking_there c.args.self.now c.args.number c.args.t c.path-visit.result c.loop-node.visit c.next.new.self c.in-Some.node c.loop-node.reads c.args.reads.now c.loop-node.invariant c.in-Some.ensures.number)
-    (ap (λ (t : NodeTree). find (is_of c.args.number c.args.t) (node_at t.nodes c.in-Some.node).intervals) (sym c.self.view_is) ∙ (ap (λ (n : Node). find (is_of c.args.number c.args.t) n.intervals) (sym c.node.ensures.node) ∙ sym c.find-found.ensures))
+pub node-node-requires-clause-number : goal.node-node-requires-clause-number
+node-node-requires-clause-number c = place_there c.self.inside.nodes.nodes c.self.inside.places c.args.number c.args.t c.in_ok-place.place c.self.invariant.indexed c.in_ok-place.ensures.found
+
+pub returns-clause-found : goal.returns-clause-found
+returns-clause-found c =
+    let t = tree_of c.self.inside.nodes.nodes c.self.inside.root c.self.inside.leaf c.self.inside.greatest in
+    rw (← c.self.view_is) (held_some t c.in_ok-place.place.node c.args.number c.args.t c.find.result c.self.invariant.tree
+    (place_there c.self.inside.nodes.nodes c.self.inside.places c.args.number c.args.t c.in_ok-place.place c.self.invariant.indexed c.in_ok-place.ensures.found)
+    (ap (λ (n : Node). find (is_of c.args.number c.args.t) n.intervals) (sym c.node-node.ensures.node) ∙ sym c.find.ensures))
 
 pub returns-clause-none : goal.returns-clause-none
 returns-clause-none c =
-    seeking_ends c.args.self.now c.args.number c.args.t c.path-visit.result c.loop-node.visit c.loop-node.reads c.args.reads.now (subst IsTree c.self.view_is c.self.invariant) c.requires.time c.loop-node.invariant c.in_default.ensures.none
+    let t = tree_of c.self.inside.nodes.nodes c.self.inside.root c.self.inside.leaf c.self.inside.greatest in
+    rw (← c.self.view_is) (none_found t c.self.inside.places c.args.number c.args.t c.in_ok-place.place c.find.result c.self.invariant.tree c.self.invariant.indexed c.in_ok-place.ensures.found
+    (ap (λ (n : Node). find (is_of c.args.number c.args.t) n.intervals) (sym c.node-node.ensures.node) ∙ sym c.find.ensures))
