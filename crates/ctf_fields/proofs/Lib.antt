@@ -8,4 +8,3 @@ pub mod Aligned
 pub mod SameTypes
 pub mod Steps
 pub mod Zeros
-pub mod Passing

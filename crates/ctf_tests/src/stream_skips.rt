@@ -113,6 +113,7 @@ fn events_in(
 {
     let mut reader = EventReader::open(alloc, meta, file, span)?;
     let mut events = Vec::new(alloc);
+    reader.plan_headers(alloc, layout.lone(meta))?;
     while let Some(event) = reader.next_event_of(alloc, layout.skips(meta))? {
         if let Err(full) = events.push(event) {
             return Err(AllocError::from(full).into());

@@ -9,7 +9,7 @@ use Rattle.trace_types.specs.declared.cause.Cause.{Cause}
 use Rattle.packet_decoder.specs.Events.{as_packet}
 use Rattle.packet_decoder.specs.EventReaders.{IsReadAs, and_before, refusal}
 use Rattle.packet_decoder.specs.declared.piece.PacketSpan.{PacketSpan}
-use Rattle.ctf_fields.specs.FixedSizes.{skip_at}
+use Rattle.read_plan.specs.FixedSizes.{skip_at}
 use Rattle.kernel_layout.specs.Kinds.{kind_of}
 use Rattle.kernel_layout.specs.Tracepoints.{skips_of}
 use Rattle.kernel_layout.proofs.PassedOver.{one_kind}

@@ -1,8 +1,11 @@
 //! The pieces of a file with what they hold.
 ghost use Rattle.std.specs.Prelude.{◌≡◌, ◌≤◌, ◌^◌, Err, None, IfNone, IfOk, IfSome, length};
 ghost use Rattle.kernel_layout.specs.Tracepoints.{layout_of};
+ghost use Rattle.packet_decoder.specs.EventReaders.{events_left};
+ghost use Rattle.packet_decoder.specs.Events.{as_packet, decoded};
 ghost use Rattle.packet_decoder.specs.Pieces.{LiesIn, PieceLiesIn};
 ghost use Rattle.packet_decoder.specs.declared.failure.Failure.TheVariants as failure;
+ghost use Rattle.packet_decoder.specs.declared.piece.PacketResult.TheVariants as packet;
 ghost use Rattle.trace_types.specs.declared.cause.Cause.{Cause};
 ghost use Rattle.decode_pool.specs.Excess.{part_events, part_within};
 ghost use Rattle.decode_pool.specs.Parts.{part_of, part_of_packet};
@@ -84,6 +87,41 @@ fn packet_within(
     }
 }
 
+// Before the first event of a packet, whose headers are read by a plan where there is one that fits them.
+fn open_planned<'a>(
+    alloc: Global,
+    meta: &'a TraceMeta,
+    layout: &Layout,
+    file: &'a [u8],
+    span: &PacketSpan,
+) -> Result<EventReader<'a>, Failure>
+    requires layout { layout.now ≡ layout_of meta.now }
+    requires file { length file.now ≤ 2 ^ 60 }
+    requires span { LiesIn file.now span.now }
+    ensures opened { IfOk result (λ r. decoded meta.now file.now span.now ≡ as_packet (events_left r)) }
+    ensures first { IfOk result (λ r. r.read ≡ 0) }
+    ensures within { IfOk result (λ r. r.within.meta ≡ meta.now) }
+    ensures refused { (cause : Cause) → result ≡ Err (failure.Refused cause) → decoded meta.now file.now span.now ≡ packet.Refused cause }
+{
+    let mut reader = EventReader::open(alloc, meta, file, span)?;
+    plan_headers(alloc, meta, layout, &mut reader)?;
+    Ok(reader)
+}
+
+// Lets headers be read by a plan, where no type looks into them.
+fn plan_headers(
+    alloc: Global,
+    meta: &TraceMeta,
+    layout: &Layout,
+    reader: &mut EventReader<'_>,
+) -> Result<(), OutOfMemory>
+    requires layout { layout.now ≡ layout_of meta.now }
+    requires within { reader.old.within.meta ≡ meta.now }
+    ensures { reader.new ≡ reader.old }
+{
+    reader.plan_headers(alloc, layout.lone(meta))
+}
+
 // A packet with its events, of which each is made a kernel event as it is read, so that its fields' memory is used again.
 // Fields that no kind needs are passed over. Where there are more than `most`, the packet is read to its end all the
 // same, since it may be refused there.
@@ -104,7 +142,7 @@ fn accept_packet(
     ensures more { IfOk result (λ r. IfNone r (part_within most (part_of_packet host meta.now file.now span.now) ≡ None)) }
     ensures refused { (cause : Cause) → result ≡ Err (failure.Refused cause) → part_of_packet host meta.now file.now span.now ≡ part.Refused span.now.offset cause }
 {
-    let mut reader = EventReader::open(alloc, meta, file, span)?;
+    let mut reader = open_planned(alloc, meta, layout, file, span)?;
     let mut events = Items::new(alloc);
     let mut incomplete = 0u64;
     let skips = layout.skips(meta);

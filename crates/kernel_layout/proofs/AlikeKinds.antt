@@ -1,11 +1,7 @@
 -- Kernel events are the same by two representations of one trace.
-use Rattle.std.proofs.Common.{◌≡◌, ◌∙◌, ℕ, zero, suc, ℤ, pos, neg_ℤ, ◌+◌, ◌*◌, ◌^◌, ◌≤◌, Bool, true, false, not, ◌&&◌, if◌then◌else◌, nat_le, nat_lt, List, [], ◌∷◌, codes, length, map, take, Option, Some, None, option_map, slice_get, unwrap_or, refl, sym, ap, ap₂}
+use Rattle.std.proofs.Common.{◌≡◌, ◌∙◌, ℕ, zero, suc, ℤ, pos, neg_ℤ, ◌*◌, ◌^◌, not, ◌&&◌, if◌then◌else◌, nat_le, List, [], ◌∷◌, codes, length, map, take, Option, Some, None, option_map, slice_get, unwrap_or, refl, sym, ap, ap₂}
 use Rattle.trace_types.specs.Padding.{name_in}
-use Rattle.trace_types.specs.declared.event.KernelEvent.{KernelEvent}
 use Rattle.trace_types.specs.declared.event.KernelEvent.TheVariants as kind
-use Rattle.trace_types.specs.declared.request.Request.{Request}
-use Rattle.trace_types.specs.declared.segment.SegKey.{SegKey}
-use Rattle.trace_types.specs.declared.woken.Woken.{Woken}
 use Rattle.type_table.specs.SameTrace.{AreBoth, IsSameEvent, IsSameTrace}
 use Rattle.type_table.specs.Table.{Table, IsSoundTable}
 use Rattle.type_table.specs.TraceMetas.{IsSoundMeta, TraceMetaModel}
@@ -15,15 +11,14 @@ use Rattle.type_table.specs.declared.declared.EventParts.{EventParts}
 use Rattle.ctf_fields.specs.declared.field.Field.{Field, out-Field}
 use Rattle.ctf_fields.specs.declared.raw.RawEvent.{RawEvent}
 use Rattle.ctf_fields.specs.Fields.{number_of}
-use Rattle.ctf_fields.specs.Named.{first_named}
 use Rattle.ctf_fields.specs.Reading.{integer_type}
-use Rattle.ctf_fields.specs.Values.{below, below_if_any}
+use Rattle.ctf_fields.specs.Values.{below_if_any}
 use Rattle.ctf_fields.proofs.Alike.{Alike, ints, texts, structs, choices, lists, AlikeItems, no_items, and_item, AlikeIf, AlikeNumbers}
 use Rattle.ctf_fields.proofs.AlikeFields.{first_alike, number_alike, value_alike}
 use Rattle.ctf_fields.proofs.SameTypes.{same_integer}
 use Rattle.trace_types.specs.declared.event_kind.EventKind.{EventKind}
 use Rattle.trace_types.specs.declared.event_kind.EventKind.TheVariants as event_kind
-use Rattle.kernel_layout.specs.Kinds.{disk_request, event_of, fork, kind_by, kind_of, migrate, name_of, or_other, other_event_of, ports, priority, process, segment, state, switch, wakeup_fields}
+use Rattle.kernel_layout.specs.Kinds.{disk_request, event_of, fork, kind_by, kind_of, migrate, name_of, or_other, other_event_of, priority, process, segment, state, switch, wakeup_fields}
 use Rattle.kernel_layout.specs.Needed.{address, address_by, address_in, and_then, between, byte_in, byte_of, comm, comm_in, followed, is_byte, joined, list_address, lone_address, name_by, number, of_16, of_32, of_64, small}
 use Rattle.kernel_layout.specs.Tracepoints.{kinds_of, kind_named}
 

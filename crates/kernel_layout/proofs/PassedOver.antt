@@ -7,10 +7,10 @@ use Rattle.type_table.specs.declared.declared.EventParts.{EventParts}
 use Rattle.trace_types.specs.declared.event_kind.EventKind.{EventKind}
 use Rattle.trace_types.specs.declared.event_kind.EventKind.TheVariants as event_kind
 use Rattle.ctf_fields.specs.declared.field.Field.{Field}
-use Rattle.ctf_fields.specs.declared.fixed.FixedSize.{FixedSize}
+use Rattle.read_plan.specs.declared.fixed.FixedSize.{FixedSize}
 use Rattle.ctf_fields.specs.declared.raw.RawEvent.{RawEvent}
-use Rattle.ctf_fields.specs.FixedSizes.{AreSkips, FieldsTake, size_at, sizes_of, skip_at}
-use Rattle.ctf_fields.proofs.Passing.{takes_bits}
+use Rattle.read_plan.specs.FixedSizes.{AreSkips, FieldsTake, size_at, sizes_of, skip_at}
+use Rattle.read_plan.proofs.Passing.{takes_bits}
 use Rattle.kernel_layout.specs.Skips.{bits_of, kind_at, needs_fields, skip_of}
 use Rattle.kernel_layout.specs.Tracepoints.{kinds_of, skips_of}
 use Rattle.kernel_layout.specs.Kinds.{event_of, kind_by, kind_of, name_of, or_other}

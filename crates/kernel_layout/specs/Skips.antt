@@ -3,8 +3,8 @@ use Rattle.std.specs.Prelude.{ℕ, Bool, true, false, List, Option, Some, None, 
 use Rattle.type_table.specs.declared.declared.EventParts.{EventParts}
 use Rattle.trace_types.specs.declared.event_kind.EventKind.{EventKind}
 use Rattle.trace_types.specs.declared.event_kind.EventKind.TheVariants as event_kind
-use Rattle.ctf_fields.specs.declared.fixed.FixedSize.{FixedSize}
-use Rattle.ctf_fields.specs.FixedSizes.{size_at}
+use Rattle.read_plan.specs.declared.fixed.FixedSize.{FixedSize}
+use Rattle.read_plan.specs.FixedSizes.{size_at}
 
 -- whether an event of this kind is told by its fields; a system call and any other event are told by their names
 abbrev pub needs_fields : EventKind → Bool

@@ -1,10 +1,11 @@
 -- The kinds of events by the names of their tracepoints (the names are those of LTTng's kernel tracer; that these are told apart is this project's own).
-use Rattle.std.specs.Prelude.{ℕ, ◌||◌, List, codes, map, Option, Some, None, if◌then◌else◌}
+use Rattle.std.specs.Prelude.{ℕ, ◌||◌, Bool, List, codes, map, Option, Some, None, if◌then◌else◌}
 use Rattle.trace_types.specs.CallNames.{is_call_in, is_call_out}
 use Rattle.tsdl_parser.specs.Symbols.{is_text}
 use Rattle.type_table.specs.Types.{Text}
 use Rattle.type_table.specs.TraceMetas.{TraceMetaModel}
-use Rattle.ctf_fields.specs.FixedSizes.{sizes_of}
+use Rattle.read_plan.specs.FixedSizes.{sizes_of}
+use Rattle.read_plan.specs.Lone.{headers_are_lone}
 use Rattle.kernel_layout.specs.Skips.{skip_of}
 use Rattle.trace_types.specs.declared.event_kind.EventKind.{EventKind}
 use Rattle.trace_types.specs.declared.event_kind.EventKind.TheVariants as event_kind
@@ -58,14 +59,15 @@ kind_named name = first_of (scheduler_kind name) (first_of (interrupt_kind name)
 abbrev pub kinds_of : TraceMetaModel → List EventKind
 kinds_of meta = map kind_named meta.declared.event_names
 
--- the kind of each event name, and for each event how many bits of it may be passed over
+-- the kind of each event name, for each event how many bits of it may be passed over, and whether no type looks into the headers of events
 pub record LayoutModel : Type 0 where
   pub kinds : List EventKind
   pub skips : List (Option ℕ)
+  pub lone : Bool
 
 abbrev pub skips_of : TraceMetaModel → List (Option ℕ)
 skips_of meta = map (λ e. skip_of (kinds_of meta) (sizes_of meta.table) e.1) meta.declared.events
 
 -- what is decided once for all events of a trace
 abbrev pub layout_of : TraceMetaModel → LayoutModel
-layout_of meta = record { kinds = kinds_of meta; skips = skips_of meta }
+layout_of meta = record { kinds = kinds_of meta; skips = skips_of meta; lone = headers_are_lone meta.table }

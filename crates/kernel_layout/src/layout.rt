@@ -1,22 +1,24 @@
-//! The kinds of a trace's event names, and what may be passed over of its events.
-ghost use Rattle.std.specs.Prelude.{◌≡◌, IfOk, map};
-ghost use Rattle.ctf_fields.specs.FixedSizes.{AreSkips};
+//! The kinds of a trace's event names, and what is known beforehand of how its events are read.
+ghost use Rattle.std.specs.Prelude.{◌≡◌, true, IfOk, map};
+ghost use Rattle.read_plan.specs.FixedSizes.{AreSkips};
+ghost use Rattle.read_plan.specs.Lone.{IsLone, headers_are_lone};
 ghost use Rattle.kernel_layout.specs.Skips.{kind_at, needs_fields, skip_of};
 ghost use Rattle.kernel_layout.specs.Tracepoints.{kinds_of, layout_of, skips_of};
 
 use crate::tracepoint::kind_named;
-use ctf_fields::{FixedSize, fixed_sizes, size_at};
+use read_plan::{FixedSize, fixed_sizes, headers_are_lone, size_at};
 use std::alloc::Global;
 use std::marker::Model;
 use trace_types::{EventKind, OutOfMemory};
 use type_table::{EventParts, TraceMeta};
 
-/// The kind of each event name of a trace, and how many bits of each event may be passed over, decided once. Contracts
-/// see the lists of them.
+/// The kind of each event name of a trace, how many bits of each event may be passed over, and whether any type looks into
+/// the headers of events, decided once. Contracts see the lists and that answer.
 #[derive(Debug, Drop)]
 pub struct Layout {
     kinds: Vec<EventKind>,
     skips: Vec<Option<u64>>,
+    lone: bool,
 }
 
 impl Model for Layout {
@@ -24,17 +26,19 @@ impl Model for Layout {
 
     ghost Value = { LayoutModel };
 
-    ghost view = { λ l. record { kinds = l.kinds.items; skips = l.skips.items } };
+    ghost view = { λ l. record { kinds = l.kinds.items; skips = l.skips.items; lone = l.lone } };
 }
 
 impl Layout {
-    /// The kinds of a trace's event names, and what may be passed over of its events. The only error is lack of memory.
+    /// The kinds of a trace's event names, and what is known beforehand of how its events are read. The only error is lack of
+    /// memory.
     pub fn new(alloc: Global, meta: &TraceMeta) -> Result<Layout, OutOfMemory>
         ensures { IfOk result (λ layout. layout ≡ layout_of meta.now) }
     {
         let kinds = kinds_of(alloc, meta)?;
         let skips = skips_of(alloc, meta, kinds.as_slice())?;
-        Ok(Layout { kinds, skips })
+        let lone = headers_are_lone(meta.table())?;
+        Ok(Layout { kinds, skips, lone })
     }
 
     /// For each event that the trace declares how many bits its fields take, where they may be passed over: its kind
@@ -47,6 +51,17 @@ impl Layout {
     {
         let _ = meta;
         self.skips.as_slice()
+    }
+
+    /// Whether no type of the trace looks into the headers of events.
+    #[tactic(auto, using(read_plan::proofs::LoneReads::is_lone))]
+    pub fn lone(&self, meta: &TraceMeta) -> bool
+        requires { self.now ≡ layout_of meta.now }
+        ensures is { result ≡ headers_are_lone meta.now.table }
+        ensures lone { result ≡ true → IsLone meta.now.table }
+    {
+        let _ = meta;
+        self.lone
     }
 
     /// The kind of the name of this number.

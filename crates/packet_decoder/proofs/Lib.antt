@@ -8,3 +8,4 @@ pub mod AlikePieces
 pub mod AlikeEvents
 pub mod StandardFacts
 pub mod PassedOver
+pub mod PlannedHeads

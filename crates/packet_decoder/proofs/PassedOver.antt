@@ -1,18 +1,24 @@
 -- Fields that are passed over, and events that are read without them.
-use Rattle.std.proofs.Common.{◌≡◌, ◌∙◌, ℕ, ◌+◌, ◌%◌, ◌≤◌, false, nat_eq, if◌then◌else◌, Option, None, Some, Ok, Err, sym, ap, arith}
+use Rattle.std.proofs.Common.{◌≡◌, ◌∙◌, ℕ, ◌+◌, ◌%◌, ◌≤◌, false, true, nat_eq, if◌then◌else◌, List, Option, None, Some, Ok, Err, sym, ap, arith}
 use Rattle.ctf_fields.specs.declared.error.FieldError.TheVariants.{ShortContent, NoVariant, TooLong, OutOfMemory}
 use Rattle.ctf_fields.specs.declared.field.Field.{Field}
 use Rattle.ctf_fields.specs.Fields.{Scopes}
-use Rattle.ctf_fields.specs.FixedSizes.{FieldsTake, Passes}
+use Rattle.read_plan.specs.FixedSizes.{FieldsTake, Passes}
 use Rattle.ctf_fields.specs.Reading.{Reads, Got, Fails, scope_read}
-use Rattle.ctf_fields.proofs.Passing.{as_passes}
+use Rattle.read_plan.proofs.Passing.{as_passes}
 use Rattle.type_table.specs.PerScope.{with_scope}
 use Rattle.type_table.specs.declared.meta.ScopeName.TheVariants.{EventHeader}
 use Rattle.packet_decoder.specs.declared.events.Cursor.{Cursor}
 use Rattle.packet_decoder.specs.declared.events.EventHead.{EventHead}
 use Rattle.packet_decoder.specs.Events.{PacketModel, as_result, event, event_body, event_head, event_timed, field_or_none, from_of}
+use Rattle.packet_decoder.specs.declared.failure.Failure.{Failure}
+use Rattle.packet_decoder.specs.declared.failure.Failure.TheVariants.{Refused}
+use Rattle.packet_decoder.specs.declared.failure.Failure.TheVariants.{OutOfMemory as NoMemory}
+use Rattle.packet_decoder.specs.EventReaders.{EventReadAs, FieldsReadAs, IsHeadReadAs}
 use Rattle.packet_decoder.specs.PacketHeads.{and_then, read_scope}
+use Rattle.packet_decoder.proofs.PlannedHeads.{body_same}
 use Rattle.packet_decoder.specs.Times.{time_after}
+use Rattle.trace_types.specs.declared.cause.Cause.{Cause}
 use Rattle.trace_types.specs.declared.cause.Cause.TheVariants as cause
 
 -- the fields of an event take so many bits
@@ -28,13 +34,45 @@ passed (Fails NoVariant) at bits end next h is fits = absurd h
 passed (Fails TooLong) at bits end next h is fits = absurd h
 passed (Fails OutOfMemory) at bits end next h is fits = absurd h
 
--- an event of whose parts each is read
-pub event_read : (w : PacketModel) (s : Scopes) (c : Cursor) (head : EventHead) (whole : Option Field) (at clock time : ℕ) → event_head w s c.at ≡ Ok head → event_body w (with_scope EventHeader head.header s) head.parts head.at ≡ Ok (whole, at)
-    → nat_eq at c.at ≡ false → time_after w.meta head.timestamp c.clock ≡ Ok (clock, time)
+-- an event of whose parts each is read, its header with its fields or without
+pub event_read : (w : PacketModel) (s : Scopes) (c : Cursor) (first head : EventHead) (whole : Option Field) (at clock time : ℕ) → IsHeadReadAs w.meta.table first head → event_head w s c.at ≡ Ok first
+    → event_body w (with_scope EventHeader head.header s) head.parts head.at ≡ Ok (whole, at) → nat_eq at c.at ≡ false → time_after w.meta head.timestamp c.clock ≡ Ok (clock, time)
     → event w s c ≡ Ok (record { time = time; cpu = w.cpu; event = head.event; fields = field_or_none whole }, record { clock = clock; at = at })
 unfolding event
-event_read w s c head whole at clock time heads bodies moved times =
-    ap (λ x. and_then x (λ head. and_then (event_body w (with_scope EventHeader head.header s) head.parts head.at) (λ body. event_timed w c head body.0 body.1))) heads
-    ∙ ap (λ x. and_then x (λ body. event_timed w c head body.0 body.1)) bodies
-    ∙ ap (λ b. if b then Err cause.NoBits else and_then (time_after w.meta head.timestamp c.clock) (λ t. Ok (record { time = t.1; cpu = w.cpu; event = head.event; fields = field_or_none whole }, record { clock = t.0; at = at }))) moved
-    ∙ ap (λ x. and_then x (λ t. Ok (record { time = t.1; cpu = w.cpu; event = head.event; fields = field_or_none whole }, record { clock = t.0; at = at }))) times
+event_read w s c first head whole at clock time read heads bodies moved times =
+    ap (λ x. and_then x (λ h. and_then (event_body w (with_scope EventHeader h.header s) h.parts h.at) (λ body. event_timed w c h body.0 body.1))) heads
+    ∙ ap (λ x. and_then x (λ body. event_timed w c first body.0 body.1)) (sym (body_same w s first head read) ∙ bodies)
+    ∙ ap (λ b. if b then Err cause.NoBits else and_then (time_after w.meta first.timestamp c.clock) (λ t. Ok (record { time = t.1; cpu = w.cpu; event = first.event; fields = field_or_none whole }, record { clock = t.0; at = at }))) moved
+    ∙ ap (λ x. and_then x (λ t. Ok (record { time = t.1; cpu = w.cpu; event = first.event; fields = field_or_none whole }, record { clock = t.0; at = at }))) (ap (λ t. time_after w.meta t c.clock) (sym read.timestamp) ∙ times)
+    ∙ ap (λ e. Ok (record { time = time; cpu = w.cpu; event = e; fields = field_or_none whole }, record { clock = clock; at = at })) (sym read.event)
+
+-- what stands after a header refuses, or takes no bit, or its time does
+pub body_refused : (w : PacketModel) (s : Scopes) (c : Cursor) (first head : EventHead) (e : Cause) → IsHeadReadAs w.meta.table first head → event_head w s c.at ≡ Ok first
+    → event_body w (with_scope EventHeader head.header s) head.parts head.at ≡ Err e → event w s c ≡ Err e
+unfolding event
+body_refused w s c first head e read heads bodies =
+    ap (λ x. and_then x (λ h. and_then (event_body w (with_scope EventHeader h.header s) h.parts h.at) (λ body. event_timed w c h body.0 body.1))) heads
+    ∙ ap (λ x. and_then x (λ body. event_timed w c first body.0 body.1)) (sym (body_same w s first head read) ∙ bodies)
+
+pub no_bits : (w : PacketModel) (s : Scopes) (c : Cursor) (first head : EventHead) (whole : Option Field) (at : ℕ) → IsHeadReadAs w.meta.table first head → event_head w s c.at ≡ Ok first
+    → event_body w (with_scope EventHeader head.header s) head.parts head.at ≡ Ok (whole, at) → nat_eq at c.at ≡ true → event w s c ≡ Err cause.NoBits
+unfolding event
+no_bits w s c first head whole at read heads bodies still =
+    ap (λ x. and_then x (λ h. and_then (event_body w (with_scope EventHeader h.header s) h.parts h.at) (λ body. event_timed w c h body.0 body.1))) heads
+    ∙ ap (λ x. and_then x (λ body. event_timed w c first body.0 body.1)) (sym (body_same w s first head read) ∙ bodies)
+    ∙ ap (λ b. if b then Err cause.NoBits else and_then (time_after w.meta first.timestamp c.clock) (λ t. Ok (record { time = t.1; cpu = w.cpu; event = first.event; fields = field_or_none whole }, record { clock = t.0; at = at }))) still
+
+pub time_refused : (w : PacketModel) (s : Scopes) (c : Cursor) (first head : EventHead) (whole : Option Field) (at : ℕ) (e : Cause) → IsHeadReadAs w.meta.table first head → event_head w s c.at ≡ Ok first
+    → event_body w (with_scope EventHeader head.header s) head.parts head.at ≡ Ok (whole, at) → nat_eq at c.at ≡ false → time_after w.meta head.timestamp c.clock ≡ Err e → event w s c ≡ Err e
+unfolding event
+time_refused w s c first head whole at e read heads bodies moved times =
+    ap (λ x. and_then x (λ h. and_then (event_body w (with_scope EventHeader h.header s) h.parts h.at) (λ body. event_timed w c h body.0 body.1))) heads
+    ∙ ap (λ x. and_then x (λ body. event_timed w c first body.0 body.1)) (sym (body_same w s first head read) ∙ bodies)
+    ∙ ap (λ b. if b then Err cause.NoBits else and_then (time_after w.meta first.timestamp c.clock) (λ t. Ok (record { time = t.1; cpu = w.cpu; event = first.event; fields = field_or_none whole }, record { clock = t.0; at = at }))) moved
+    ∙ ap (λ x. and_then x (λ t. Ok (record { time = t.1; cpu = w.cpu; event = first.event; fields = field_or_none whole }, record { clock = t.0; at = at }))) (ap (λ t. time_after w.meta t c.clock) (sym read.timestamp) ∙ times)
+
+-- what stands after a header can't be read, and so the event can't be
+pub by_fields : (skips : List (Option ℕ)) (skip : Option ℕ) (w : PacketModel) (s : Scopes) (c : Cursor) (first head : EventHead) (e : Failure) → IsHeadReadAs w.meta.table first head → event_head w s c.at ≡ Ok first
+    → FieldsReadAs skip (event_body w (with_scope EventHeader head.header s) head.parts head.at) (Err e) → EventReadAs skips (event w s c) (Err e)
+by_fields skips skip w s c first head (Refused cause) read heads bodies = body_refused w s c first head cause read heads bodies
+by_fields skips skip w s c first head NoMemory read heads bodies = tt

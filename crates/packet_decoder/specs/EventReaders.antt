@@ -1,12 +1,19 @@
 -- A packet whose events are read one by one (the events are those of CTF 1.8, section 6; that they are read so is this project's own).
-use Rattle.std.specs.Prelude.{◌≡◌, ℕ, ◌-◌, List, [], ◌∷◌, Option, None, Some, Result, Ok, Err}
+use Rattle.std.specs.Prelude.{◌≡◌, ◌⊎◌, ℕ, ◌-◌, Bool, List, [], ◌∷◌, Option, None, Some, Result, Ok, Err, if◌then◌else◌}
+use Rattle.std.specs.Option.{option_and_then}
 use Rattle.ctf_fields.specs.declared.raw.RawEvent.{RawEvent}
 use Rattle.ctf_fields.specs.declared.field.Field.{Field}
 use Rattle.ctf_fields.specs.Fields.{Scopes}
-use Rattle.ctf_fields.specs.FixedSizes.{skip_at}
+use Rattle.type_table.specs.Table.{Table}
+use Rattle.read_plan.specs.FixedSizes.{AreSkips, skip_at}
+use Rattle.read_plan.specs.Headers.{IsPlanFor, IsReadablePlan}
+use Rattle.read_plan.specs.Headers.{header_plan as plan_of}
+use Rattle.read_plan.specs.Lone.{IsLone}
+use Rattle.read_plan.specs.declared.header.HeaderPlan.{HeaderPlan}
 use Rattle.packet_decoder.specs.Events.{PacketModel, events_from}
 use Rattle.packet_decoder.specs.PacketHeads.{and_then}
 use Rattle.packet_decoder.specs.declared.events.Cursor.{Cursor}
+use Rattle.packet_decoder.specs.declared.events.EventHead.{EventHead}
 use Rattle.packet_decoder.specs.declared.failure.Failure.{Failure}
 use Rattle.packet_decoder.specs.declared.failure.Failure.TheVariants as failure
 use Rattle.trace_types.specs.declared.cause.Cause.{Cause}
@@ -51,3 +58,29 @@ abbrev pub EventReadAs : List (Option ℕ) → Result (RawEvent × Cursor) Cause
 EventReadAs skips answer (Ok r) = (whole : RawEvent) × (answer ≡ Ok (whole, r.1)) × IsReadAs skips whole r.0
 EventReadAs skips answer (Err (failure.Refused cause)) = answer ≡ Err cause
 EventReadAs skips answer (Err failure.OutOfMemory) = Unit {0}
+
+-- ---- headers whose fields aren't kept
+
+-- the plan of a stream's headers, where it has any and no type looks into them
+abbrev pub planned_header : PacketModel → Bool → Option HeaderPlan
+planned_header w lone = if lone then option_and_then (plan_of w.meta.table) w.parts.event_header else None
+
+-- a plan fits the type of a stream's headers, and no type looks into these
+abbrev pub PlanFits : Table → Option ℕ → Option HeaderPlan → Type 0
+PlanFits t ty None = Unit {0}
+PlanFits t None (Some plan) = ⊥
+PlanFits t (Some ty) (Some plan) = IsReadablePlan plan × IsPlanFor t ty plan × IsLone t
+
+-- what a header tells, and how it was read, which may be without its fields where no type looks into them
+pub record IsHeadReadAs (t : Table) (whole head : EventHead) : Type 0 where
+  pub at : head.at ≡ whole.at
+  pub event : head.event ≡ whole.event
+  pub parts : head.parts ≡ whole.parts
+  pub timestamp : head.timestamp ≡ whole.timestamp
+  pub header : (head.header ≡ whole.header) ⊎ IsLone t
+
+-- a call reads a header so, or refuses as it is refused
+abbrev pub HeadReadAs : Table → Result EventHead Cause → Result EventHead Failure → Type 0
+HeadReadAs t answer (Ok head) = (whole : EventHead) × (answer ≡ Ok whole) × IsHeadReadAs t whole head
+HeadReadAs t answer (Err (failure.Refused cause)) = answer ≡ Err cause
+HeadReadAs t answer (Err failure.OutOfMemory) = Unit {0}

@@ -21,6 +21,8 @@ use Rattle.trace_types.specs.declared.cause.Cause.{Cause}
 use Rattle.trace_types.specs.declared.cause.Cause.TheVariants as cause
 use Rattle.packet_decoder.specs.declared.events.Cursor.{Cursor}
 use Rattle.packet_decoder.specs.declared.events.EventHead.{EventHead}
+use Rattle.packet_decoder.specs.declared.failure.Failure.{Failure}
+use Rattle.packet_decoder.specs.declared.failure.Failure.TheVariants as failure
 use Rattle.packet_decoder.specs.declared.packet_head.PacketHead.{PacketHead}
 use Rattle.packet_decoder.specs.declared.piece.PacketResult.{PacketResult}
 use Rattle.packet_decoder.specs.declared.piece.PacketResult.TheVariants as result
@@ -48,6 +50,13 @@ abbrev pub cause_of : FieldError → Cause
 cause_of error.NoVariant = cause.NoVariant
 cause_of error.TooLong = cause.TooLong
 cause_of _ = cause.ShortContent
+
+-- why an event can't be read of which a field can't be
+abbrev pub failure_of : FieldError → Failure
+failure_of error.ShortContent = failure.Refused cause.ShortContent
+failure_of error.NoVariant = failure.Refused cause.NoVariant
+failure_of error.TooLong = failure.Refused cause.TooLong
+failure_of error.OutOfMemory = failure.OutOfMemory
 
 abbrev pub as_result : Reads (Option Field) → Result (Option Field × ℕ) Cause
 as_result (Got f bit) = Ok (f, bit)

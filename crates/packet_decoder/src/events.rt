@@ -1,18 +1,20 @@
 //! The events of a packet.
 ghost use Rattle.std.specs.Prelude.{◌≡◌, ◌≤◌, ◌<◌, ◌%◌, ◌^◌, ◌++◌, None, Some, option_map, slice_get, IfOk, OnOk, IfSome, [], ◌∷◌};
 ghost use Rattle.std.specs.Option.{option_copied};
-ghost use Rattle.packet_decoder.specs.Events.{cleared, event, event_body, event_fields, event_by, event_head, field_or_none, scope_at};
-ghost use Rattle.packet_decoder.specs.EventReaders.{EventReadAs, FieldsReadAs};
+ghost use Rattle.packet_decoder.specs.Events.{cleared, event, event_body, event_fields, event_by, event_head, failure_of, field_or_none, scope_at};
+ghost use Rattle.packet_decoder.specs.EventReaders.{EventReadAs, FieldsReadAs, HeadReadAs, PlanFits};
 ghost use Rattle.packet_decoder.specs.PacketHeads.{Answers};
-ghost use Rattle.ctf_fields.specs.FixedSizes.{AreSkips, FieldsTake, skip_at};
+ghost use Rattle.ctf_fields.specs.Fields.{Scopes};
+ghost use Rattle.read_plan.specs.FixedSizes.{AreSkips, FieldsTake, skip_at};
 
 use crate::failure::Failure;
 use crate::times::{Timestamp, time_after, timestamp_in};
 use crate::values::id_in;
 use ctf_fields::{
     BitSpan, Field, FieldError, RawEvent, Scopes, Scratch, last_and_first, number_of,
-    read_type_within, skip_fixed,
+    read_type_within,
 };
+use read_plan::{HeaderPlan, skip_fixed};
 use sqlite_items::Items;
 use std::alloc::Global;
 use std::marker::Model;
@@ -47,8 +49,8 @@ pub struct Cursor {
     pub at: u64,
 }
 
-/// An event's header, the first bit after it, the event's index among those that are declared, the types of its
-/// scopes, and its timestamp.
+/// An event's header, where its fields are kept, the first bit after it, the event's index among those that are declared,
+/// the types of its scopes, and its timestamp.
 #[derive(Debug, Drop)]
 pub struct EventHead {
     pub header: Option<Field>,
@@ -76,10 +78,19 @@ fn scope_at(
     };
     match read_type_within(alloc, packet.meta, ty, packet.bits, at, scopes, scratch) {
         Ok((field, end)) => Ok((Some(field), end)),
-        Err(FieldError::ShortContent) => Err(Failure::Refused(Cause::ShortContent)),
-        Err(FieldError::NoVariant) => Err(Failure::Refused(Cause::NoVariant)),
-        Err(FieldError::TooLong) => Err(Failure::Refused(Cause::TooLong)),
-        Err(FieldError::OutOfMemory) => Err(Failure::OutOfMemory),
+        Err(error) => Err(failure_of(error)),
+    }
+}
+
+// Why an event can't be read of which a field can't be.
+fn failure_of(error: FieldError) -> Failure
+    ensures { result ≡ failure_of error }
+{
+    match error {
+        FieldError::ShortContent => Failure::Refused(Cause::ShortContent),
+        FieldError::NoVariant => Failure::Refused(Cause::NoVariant),
+        FieldError::TooLong => Failure::Refused(Cause::TooLong),
+        FieldError::OutOfMemory => Failure::OutOfMemory,
     }
 }
 
@@ -130,6 +141,55 @@ fn event_head(
         parts,
         timestamp,
     })
+}
+
+// The same of a header that is read by a plan, which keeps no field of it.
+#[tactic(auto, unfolding(crate::specs::Events::event_head))]
+fn planned_head(packet: &Packet<'_>, plan: &HeaderPlan, at: u64) -> Result<EventHead, Failure>
+    requires at { at ≤ 2 ^ 63 }
+    requires fits { PlanFits packet.now.meta.table packet.now.parts.event_header (Some plan.now) }
+    ensures answers { (scopes : Scopes) → HeadReadAs packet.now.meta.table (event_head packet.now scopes at) result }
+    ensures forward { IfOk result (λ h. (at ≤ h.at) × (h.at ≤ 2 ^ 63)) }
+    ensures declared { IfOk result (λ h. option_map (λ d. d.1) (slice_get packet.now.meta.declared.events h.event) ≡ Some h.parts) }
+    ensures timestamp { IfOk result (λ h. IfSome h.timestamp (λ s. (1 ≤ s.size) × (s.size ≤ 64))) }
+{
+    let (told, at) = match plan.read(packet.bits, at) {
+        Ok(read) => read,
+        Err(error) => return Err(failure_of(error)),
+    };
+    let timestamp = timestamp_in(packet.meta.table(), told.timestamp);
+    let Some((event, parts)) = event_by(packet.meta, packet.stream, id_in(told.id)) else {
+        return Err(Failure::Refused(Cause::UnknownEvent));
+    };
+    Ok(EventHead {
+        header: None,
+        at,
+        event,
+        parts,
+        timestamp,
+    })
+}
+
+// The header, by its plan where there is one.
+fn head_at(
+    alloc: Global,
+    packet: &Packet<'_>,
+    scopes: &Scopes,
+    scratch: &mut Scratch,
+    plan: Option<&HeaderPlan>,
+    at: u64,
+) -> Result<EventHead, Failure>
+    requires at { at ≤ 2 ^ 63 }
+    requires fits { PlanFits packet.now.meta.table packet.now.parts.event_header (option_copied plan) }
+    ensures answers { HeadReadAs packet.now.meta.table (event_head packet.now scopes.now at) result }
+    ensures forward { IfOk result (λ h. (at ≤ h.at) × (h.at ≤ 2 ^ 63)) }
+    ensures declared { IfOk result (λ h. option_map (λ d. d.1) (slice_get packet.now.meta.declared.events h.event) ≡ Some h.parts) }
+    ensures timestamp { IfOk result (λ h. IfSome h.timestamp (λ s. (1 ≤ s.size) × (s.size ≤ 64))) }
+{
+    match plan {
+        Some(plan) => planned_head(packet, plan, at),
+        None => event_head(alloc, packet, scopes, scratch, at),
+    }
 }
 
 // The fields of an event. They are passed over where it is known how many bits they take and they begin at a whole byte.
@@ -257,25 +317,27 @@ fn skip_at(skips: &[Option<u64>], event: u32) -> Option<u64>
     }
 }
 
-/// The event at a bit, and what stands after it. Of events that `skips` has a number of bits for, the fields may be
-/// passed over.
+/// The event at a bit, and what stands after it. Its header is read by a plan where there is one, and of events that `skips` has
+/// a number of bits for, the fields may be passed over.
 #[tactic(auto, unfolding(crate::specs::Events::event))]
 pub fn read_event(
     alloc: Global,
     packet: &Packet<'_>,
     scopes: &mut Scopes,
     scratch: &mut Scratch,
+    header: Option<&HeaderPlan>,
     skips: &[Option<u64>],
     cursor: Cursor,
 ) -> Result<(RawEvent, Cursor), Failure>
     requires at { cursor.at ≤ 2 ^ 63 }
+    requires header { PlanFits packet.now.meta.table packet.now.parts.event_header (option_copied header) }
     requires skips { AreSkips packet.now.meta skips.now }
     ensures answers { EventReadAs skips.now (event packet.now (cleared scopes.old) cursor) result }
     ensures forward { IfOk result (λ r. (cursor.at < r.1.at) × (r.1.at ≤ 2 ^ 63)) }
     ensures stays { OnOk result (cleared scopes.new ≡ cleared scopes.old) }
 {
     clear(scopes, scratch);
-    let head = event_head(alloc, packet, scopes, scratch, cursor.at)?;
+    let head = head_at(alloc, packet, scopes, scratch, header, cursor.at)?;
     scopes.event_header = head.header;
     let skip = skip_at(skips, head.event);
     let (fields, at) = event_body(alloc, packet, scopes, scratch, head.parts, skip, head.at)?;

@@ -1,9 +1,10 @@
 //! The events of a packet, read one by one.
-ghost use Rattle.std.specs.Prelude.{◌≡◌, ◌≤◌, ◌<◌, ◌+◌, ◌^◌, Ok, Err, None, Some, IfOk, IfSome, IfNone, OnOk, [], length};
+ghost use Rattle.std.specs.Prelude.{◌≡◌, ◌≤◌, ◌<◌, ◌+◌, ◌^◌, true, Ok, Err, None, Some, IfOk, IfSome, IfNone, OnOk, [], length};
 ghost use Rattle.packet_decoder.specs.Events.{as_packet, decoded};
 ghost use Rattle.packet_decoder.specs.Pieces.{LiesIn};
-ghost use Rattle.packet_decoder.specs.EventReaders.{IsReadAs, and_before, events_left, refusal};
-ghost use Rattle.ctf_fields.specs.FixedSizes.{AreSkips};
+ghost use Rattle.packet_decoder.specs.EventReaders.{IsReadAs, PlanFits, and_before, events_left, planned_header, refusal};
+ghost use Rattle.read_plan.specs.FixedSizes.{AreSkips};
+ghost use Rattle.read_plan.specs.Lone.{IsLone};
 ghost use Rattle.ctf_fields.specs.declared.raw.RawEvent.{RawEvent};
 ghost use Rattle.packet_decoder.specs.declared.failure.Failure.TheVariants as failure;
 ghost use Rattle.packet_decoder.specs.declared.piece.PacketResult.TheVariants as packet;
@@ -15,8 +16,10 @@ use crate::failure::Failure;
 use crate::packet_head::read_packet_head;
 use crate::piece::PacketSpan;
 use ctf_fields::{BitSpan, Field, RawEvent, Scopes, Scratch};
+use read_plan::{HeaderPlan, header_plan};
 use std::alloc::Global;
 use std::marker::Model;
+use trace_types::OutOfMemory;
 use type_table::TraceMeta;
 
 /// A packet whose events are read one by one.
@@ -25,6 +28,7 @@ pub struct EventReader<'a> {
     packet: Packet<'a>,
     scopes: Scopes,
     scratch: Scratch,
+    header: Option<HeaderPlan>,
     cursor: Cursor,
     read: u64,
 }
@@ -32,7 +36,7 @@ pub struct EventReader<'a> {
 impl<'a> Model for EventReader<'a> {
     ghost use Rattle.std.specs.Prelude.{◌≤◌, ◌^◌};
     ghost use Rattle.packet_decoder.specs.Events.{cleared};
-    ghost use Rattle.packet_decoder.specs.EventReaders.{EventReaderModel};
+    ghost use Rattle.packet_decoder.specs.EventReaders.{EventReaderModel, PlanFits};
     ghost use Rattle.ctf_fields.specs.contracts.field.Field as field;
     ghost use Rattle.std.specs.Coded.{codes};
 
@@ -42,7 +46,7 @@ impl<'a> Model for EventReader<'a> {
 
     ghost view = { λ r. record { within = r.packet; scopes = cleared r.scopes; cursor = r.cursor; read = r.read } };
 
-    ghost invariant = { λ r. (r.read ≤ r.cursor.at) × (r.cursor.at ≤ 2 ^ 63) };
+    ghost invariant = { λ r. (r.read ≤ r.cursor.at) × (r.cursor.at ≤ 2 ^ 63) × PlanFits r.packet.meta.table r.packet.parts.event_header r.header };
 }
 
 impl<'a> EventReader<'a> {
@@ -76,6 +80,7 @@ impl<'a> EventReader<'a> {
             },
             scopes: packet_head.scopes,
             scratch: Scratch::new(alloc),
+            header: None,
             cursor: Cursor {
                 clock: span.begin,
                 at: span.start_bit,
@@ -93,6 +98,16 @@ impl<'a> EventReader<'a> {
         ensures refused { (cause : Cause) → result ≡ Err (failure.Refused cause) → events_left self.old ≡ Err cause }
     {
         self.next_event_of(alloc, &[])
+    }
+
+    /// Lets the headers of the packet's events be read by a plan, without keeping their fields, where there is one that fits them.
+    /// `lone` tells that no type of the trace looks into the headers of events. The only error is lack of memory.
+    pub fn plan_headers(&mut self, alloc: Global, lone: bool) -> Result<(), OutOfMemory>
+        requires { lone ≡ true → IsLone self.old.within.meta.table }
+        ensures { self.new ≡ self.old }
+    {
+        self.header = plan_of(alloc, &self.packet, lone)?;
+        Ok(())
     }
 
     /// The next event, and none after the last. Where `skips` has a number of bits for an event, its fields may be
@@ -117,6 +132,7 @@ impl<'a> EventReader<'a> {
             &self.packet,
             &mut self.scopes,
             &mut self.scratch,
+            self.header.as_ref(),
             skips,
             self.cursor,
         )?;
@@ -148,5 +164,25 @@ impl<'a> EventReader<'a> {
             }
         }
         self.scratch.recycle(fields);
+    }
+}
+
+// How the headers of a packet's events are read without keeping their fields, where they have a plan and no type looks into
+// them.
+fn plan_of(
+    alloc: Global,
+    packet: &Packet<'_>,
+    lone: bool,
+) -> Result<Option<HeaderPlan>, OutOfMemory>
+    requires { lone ≡ true → IsLone packet.now.meta.table }
+    ensures is { IfOk result (λ plan. plan ≡ planned_header packet.now lone) }
+    ensures fits { IfOk result (λ plan. PlanFits packet.now.meta.table packet.now.parts.event_header plan) }
+{
+    if !lone {
+        return Ok(None);
+    }
+    match packet.parts.event_header {
+        Some(ty) => header_plan(alloc, packet.meta.table(), ty),
+        None => Ok(None),
     }
 }

@@ -1,4 +1,4 @@
-use Rattle.std.proofs.Common.{◌∙◌, ◌+◌, ◌++◌, ◌∷◌, ◌≡◌, [], sym, ap, map, Some, slice_get, arith, rules}
+use Rattle.std.proofs.Common.{◌∙◌, ◌++◌, ◌∷◌, ◌≡◌, [], sym, ap, map, Some, slice_get, arith, rules}
 use Rattle.kernel_layout.specs.Skips.{skip_of}
 use Rattle.kernel_layout.proofs.Names.{more_taken, all_taken, number_within}
 use Rattle.kernel_layout.proofs.layout.skips_by.Goals as goal

@@ -1,6 +1,6 @@
 use Rattle.std.proofs.Common.{◌≡◌, ◌∙◌, ◌<◌, ◌≤◌, ◌-◌, subst, sym, ap, Ok, Err, [], ◌+◌}
 use Rattle.std.proofs.lemmas.Result.{err_from_is_err_and}
-use Rattle.ctf_fields.specs.FixedSizes.{AreSkips}
+use Rattle.read_plan.specs.FixedSizes.{AreSkips}
 use Rattle.packet_decoder.specs.Events.{cleared}
 use Rattle.packet_decoder.specs.EventReaders.{and_before, events_left}
 use Rattle.packet_decoder.specs.declared.failure.Failure.TheVariants as failure

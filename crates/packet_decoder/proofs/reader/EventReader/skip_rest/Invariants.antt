@@ -1,5 +1,5 @@
 use Rattle.std.proofs.Common.{◌≡◌, ◌-◌}
-use Rattle.ctf_fields.specs.FixedSizes.{AreSkips}
+use Rattle.read_plan.specs.FixedSizes.{AreSkips}
 use Rattle.packet_decoder.specs.EventReaders.{events_left, refusal}
 use Rattle.packet_decoder.proofs.reader.EventReader.skip_rest.Given as goal
 

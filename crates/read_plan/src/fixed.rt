@@ -1,10 +1,9 @@
 //! How many bits types take that take as many wherever they begin at a whole byte.
 ghost use Rattle.std.specs.Prelude.{◌≡◌, ◌+◌, ◌<◌, ◌≤◌, ◌^◌, IfErr, IfOk};
 ghost use Rattle.ctf_fields.specs.declared.error.FieldError.TheVariants as error;
-ghost use Rattle.ctf_fields.specs.FixedSizes.{array_size, joined, members_from, no_size, number_size, one_around, repeated, size_at, sized, sizes_of, struct_size, with_field, within_byte};
+ghost use Rattle.read_plan.specs.FixedSizes.{array_size, joined, members_from, no_size, number_size, one_around, repeated, size_at, sized, sizes_of, struct_size, with_field, within_byte};
 
-use crate::error::FieldError;
-use crate::types::{align_at, integer_type, type_at};
+use ctf_fields::{FieldError, align_at, integer_type, type_at};
 use std::alloc::Global;
 use trace_types::{MAX_TYPE_DEPTH, OutOfMemory};
 use type_table::{FieldMeta, Integer, Table, TypeMeta};

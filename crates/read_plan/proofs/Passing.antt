@@ -13,12 +13,12 @@ use Rattle.type_table.specs.declared.meta.TypeMeta.TheVariants as meta
 use Rattle.ctf_fields.specs.declared.open_struct.OpenStruct.{OpenStruct}
 use Rattle.ctf_fields.specs.declared.error.FieldError.TheVariants.{ShortContent, NoVariant, TooLong, OutOfMemory}
 use Rattle.ctf_fields.specs.declared.field.Field.{Field}
-use Rattle.ctf_fields.specs.declared.fixed.FixedSize.{FixedSize}
+use Rattle.read_plan.specs.declared.fixed.FixedSize.{FixedSize}
 use Rattle.bit_reader.specs.Bits.{integer}
 use Rattle.ctf_fields.specs.declared.field.Field.TheVariants as field
 use Rattle.ctf_fields.specs.Leaves.{integer_at, value_of}
 use Rattle.ctf_fields.specs.Reading.{MAX_TYPE_DEPTH, SourceModel, Reads, Got, Fails, align_at, as_read, integer_type, leaf, then_read, read, read_by, read_item, read_items, read_member, read_members, read_number}
-use Rattle.ctf_fields.specs.FixedSizes.{Passes, TakesBits, array_size, joined, members_from, no_size, number_size, one_around, repeated, size_at, size_within, sized, sized_by, sizes_of, sizes_of_first, struct_size, with_field, within_byte}
+use Rattle.read_plan.specs.FixedSizes.{Passes, TakesBits, array_size, joined, members_from, no_size, number_size, one_around, repeated, size_at, size_within, sized, sized_by, sizes_of, sizes_of_first, struct_size, with_field, within_byte}
 use Rattle.ctf_fields.proofs.Integers.{number_read}
 use Rattle.ctf_fields.proofs.Steps.{one_deeper}
 

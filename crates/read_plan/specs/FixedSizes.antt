@@ -9,7 +9,7 @@ use Rattle.type_table.specs.declared.meta.FieldMeta.{FieldMeta}
 use Rattle.type_table.specs.declared.meta.TypeMeta.{TypeMeta}
 use Rattle.type_table.specs.declared.meta.TypeMeta.TheVariants as meta
 use Rattle.ctf_fields.specs.declared.error.FieldError.TheVariants.{ShortContent, NoVariant, TooLong, OutOfMemory}
-use Rattle.ctf_fields.specs.declared.fixed.FixedSize.{FixedSize}
+use Rattle.read_plan.specs.declared.fixed.FixedSize.{FixedSize}
 use Rattle.ctf_fields.specs.Fields.{Scopes}
 use Rattle.ctf_fields.specs.Reading.{MAX_TYPE_DEPTH, Reads, Got, Fails, align_at, integer_type, scope_read}
 

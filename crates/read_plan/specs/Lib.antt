@@ -1,0 +1,3 @@
+pub mod FixedSizes
+pub mod Headers
+pub mod Lone

@@ -1,0 +1,12 @@
+//! What of a trace's types is found out once, so that its events are read in fewer steps.
+#![tactic(auto)]
+
+mod fixed;
+mod header;
+mod lone;
+mod planning;
+
+pub use fixed::{FixedSize, fixed_sizes, size_at, skip_fixed};
+pub use header::{HeaderNumber, HeaderNumbers, HeaderOption, HeaderPlan, MAX_PLANNED, NumberRow};
+pub use lone::headers_are_lone;
+pub use planning::header_plan;
