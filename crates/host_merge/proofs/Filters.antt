@@ -1,11 +1,11 @@
 -- Sorts, filters and lists that are joined, in any order.
-use Rattle.std.proofs.Common.{◌≡◌, ◌≢◌, ◌<◌, ◌≤◌, ◌+◌, ◌⊎◌, inl, inr, ℕ, zero, suc, Bool, true, false, cond, if◌then◌else◌, List, [], ◌∷◌, ◌++◌, filter, nat_lt, refl, sym, ap, ap₂, ◌∙◌, arith, add-one, le_trans, lt-ltb, le-ltb}
+use Rattle.std.proofs.Common.{◌≡◌, ◌≢◌, ◌<◌, ◌≤◌, ◌+◌, ◌⊎◌, inl, inr, ℕ, zero, suc, Bool, true, false, cond, if◌then◌else◌, List, [], ◌∷◌, ◌++◌, filter, nat_eq, nat_lt, refl, sym, ap, ap₂, ◌∙◌, arith, add-one, le_trans, lt-ltb, le-ltb}
 use Rattle.std.specs.List.{flat_map, range_with_len}
 use Rattle.std.proofs.lemmas.Bool.{cases_lt, cases_eq}
 use Rattle.std.proofs.lemmas.List.{append-nil}
 use Rattle.std.proofs.lemmas.List.Elements.{filter-append}
 use Rattle.stable_sort.specs.Sorted.{put_in, sorted}
-use Rattle.stable_sort.proofs.Unique.{InOrder, NoneBelow, is_sorted, sorted_rises}
+use Rattle.stable_sort.proofs.Unique.{InOrder, NoneBelow, is_sorted, of_key, sorted_of_key, sorted_rises}
 use Rattle.host_merge.proofs.Ranges.{below_no, below_yes, flat_push}
 
 module _ {X : Type 0} (key : X → ℕ) where
@@ -25,11 +25,11 @@ module _ {X : Type 0} (key : X → ℕ) where
       by true rest = (none_below_filter p (key x) xs a.0, rest)
       by false rest = rest
 
-  weaker : (m n : ℕ) (xs : List X) → m ≤ n → NoneBelow key n xs → NoneBelow key m xs
+  pub weaker : (m n : ℕ) (xs : List X) → m ≤ n → NoneBelow key n xs → NoneBelow key m xs
   weaker m n [] h a = tt
   weaker m n (x ∷ xs) h a = (le_trans h a.0, weaker m n xs h a.1)
 
-  put_first : (x : X) (xs : List X) → NoneBelow key (key x) xs → put_in key x xs ≡ x ∷ xs
+  pub put_first : (x : X) (xs : List X) → NoneBelow key (key x) xs → put_in key x xs ≡ x ∷ xs
   put_first x [] a = refl
   put_first x (y ∷ ys) a = ap (λ b. if b then y ∷ put_in key x ys else x ∷ y ∷ ys) (le-ltb (key y) (key x) a.0)
 
@@ -68,6 +68,15 @@ module _ {X : Type 0} (key : X → ℕ) where
 
   pub sorted_same : (xs : List X) → InOrder key xs → sorted key xs ≡ xs
   sorted_same xs a = sym (is_sorted key xs xs a (λ x. refl))
+
+  pub sorted_again : (xs : List X) → sorted key (sorted key xs) ≡ sorted key xs
+  sorted_again xs = sorted_same (sorted key xs) (sorted_rises key xs)
+
+  -- what is sorted may be sorted before something is put at its end
+  pub sorted_joined : (xs ys more : List X) → sorted key xs ≡ sorted key ys → sorted key (xs ++ more) ≡ sorted key (ys ++ more)
+  sorted_joined xs ys more e = is_sorted key (ys ++ more) (sorted key (xs ++ more)) (sorted_rises key (xs ++ more)) (λ x.
+      let same : of_key key (key x) xs ≡ of_key key (key x) ys = sym (sorted_of_key key (key x) xs) ∙ (ap (of_key key (key x)) e ∙ sorted_of_key key (key x) ys) in
+      sorted_of_key key (key x) (xs ++ more) ∙ (filter-append (λ y. nat_eq (key y) (key x)) xs more ∙ (ap (λ l. l ++ of_key key (key x) more) same ∙ sym (filter-append (λ y. nat_eq (key y) (key x)) ys more))))
 
 module _ {X : Type 0} where
   pub filter_flat : (p : X → Bool) (f : ℕ → List X) (ns : List ℕ) → filter p (flat_map f ns) ≡ flat_map (λ n. filter p (f n)) ns

@@ -12,6 +12,8 @@ use Rattle.stable_sort.specs.Sorted.{put_in}
 use Rattle.trace_types.specs.declared.event.Merged.{Merged}
 use Rattle.host_merge.specs.Lists.{AreTimed, IsBroughtUp, IsJoined, sorted_at}
 use Rattle.host_merge.specs.Merge.{AreBrought, by_key, is_root, roots_below}
+use Rattle.host_merge.proofs.Brought.{key_of}
+use Rattle.host_merge.proofs.Filters.{sorted_again, sorted_joined}
 use Rattle.host_merge.proofs.Ranges.{below_yes, flat_push}
 
 brought_push : (m : PairMap) (xs ys : List Merged) (x y : Merged) → AreBrought m xs ys → y.event ≡ x.event → IsMapAt m x.key y.key → AreBrought m (xs ++ x ∷ []) (ys ++ y ∷ [])
@@ -25,24 +27,38 @@ timed_append [] ys a b = b
 timed_append (x ∷ xs) ys a b = (a.0, timed_append xs ys a.1 b)
 
 pub none_joined : (m : PairMap) (list old : List Merged) → list ≡ old → IsJoined m [] old list
-none_joined m list old e = record { brought = []; are = tt; timed = tt; at_end = e ∙ sym (append-nil old) }
+none_joined m list old e = record { brought = []; are = tt; timed = tt; in_order = ap by_key (e ∙ sym (append-nil old)) }
 
-pub joined_more : (m : PairMap) (events old list : List Merged) (i key : ℕ) (x : Merged) → i < length events → x ≡ get_or events i x → IsMapAt m x.key key → key < 2 ^ 62
-    → IsJoined m (take i events) old list → IsJoined m (take (i + 1) events) old (list ++ record { key = key; event = x.event } ∷ [])
-joined_more m events old list i key x inside at mapped below j =
-    let y : Merged = record { key = key; event = x.event } in
+pub joined_more : (m : PairMap) (events old list : List Merged) (i : ℕ) (x y : Merged) → i < length events → x ≡ get_or events i x → y.event ≡ x.event → IsMapAt m x.key y.key → y.key < 2 ^ 62
+    → IsJoined m (take i events) old list → IsJoined m (take (i + 1) events) old (list ++ y ∷ [])
+joined_more m events old list i x y inside at event mapped below j =
     let more : take (i + 1) events ≡ take i events ++ x ∷ [] = take_more events i x inside ∙ ap (λ z. take i events ++ z ∷ []) (sym at) in
     record {
       brought = j.brought ++ y ∷ [];
-      are = subst (λ xs. AreBrought m xs (j.brought ++ y ∷ [])) (sym more) (brought_push m (take i events) j.brought x y j.are refl mapped);
+      are = subst (λ xs. AreBrought m xs (j.brought ++ y ∷ [])) (sym more) (brought_push m (take i events) j.brought x y j.are event mapped);
       timed = timed_append j.brought (y ∷ []) j.timed (below, tt);
-      at_end = ap (λ l. l ++ y ∷ []) j.at_end ∙ append_assoc old j.brought (y ∷ []);
+      in_order = sorted_joined key_of list (old ++ j.brought) (y ∷ []) j.in_order ∙ ap by_key (append_assoc old j.brought (y ∷ []));
     }
+
+-- a list may be sorted before another one is joined to it
+pub joined_unsorted : (m : PairMap) (events old new : List Merged) → IsJoined m events (by_key old) new → IsJoined m events old new
+joined_unsorted m events old new j = record {
+  brought = j.brought;
+  are = j.are;
+  timed = j.timed;
+  in_order = j.in_order ∙ sorted_joined key_of (by_key old) old j.brought (sorted_again key_of old);
+}
+
+pub by_own_order : (xs ys : List Merged) → xs ≡ by_key ys → xs ≡ by_key xs
+by_own_order xs ys e = e ∙ (sym (sorted_again key_of ys) ∙ ap by_key (sym e))
+
+pub sorted_is : (lists : List (List Merged)) (u : ℕ) (l : List Merged) → slice_get lists u ≡ Some l → sorted_at lists u ≡ by_key l
+sorted_is lists u l e = ap (λ o. by_key (unwrap_or o [])) e
 
 pub one_root_more : (parents : List Parent) (lists : List (List Merged)) (host : ℕ) (whole l : List Merged) → slice_get parents host ≡ Some Root → slice_get lists host ≡ Some l
     → whole ≡ flat_map (sorted_at lists) (roots_below parents host) → whole ++ by_key l ≡ flat_map (sorted_at lists) (roots_below parents (host + 1))
 one_root_more parents lists host whole l root at is =
-    ap₂ (λ a b. a ++ b) is (ap (λ o. by_key (unwrap_or o [])) (sym at))
+    ap₂ (λ a b. a ++ b) is (sym (sorted_is lists host l at))
     ∙ (sym (flat_push (sorted_at lists) (roots_below parents host) host)
     ∙ ap (flat_map (sorted_at lists)) (sym (below_yes (λ c. is_root (slice_get parents c)) host (ap is_root root))))
 
@@ -57,6 +73,21 @@ timed_put x (y ∷ ys) h g = by (nat_lt y.key x.key) (timed_put x ys h g.1)
 pub timed_sorted : (xs : List Merged) → AreTimed xs → AreTimed (by_key xs)
 timed_sorted [] h = tt
 timed_sorted (x ∷ xs) h = timed_put x (by_key xs) h.0 (timed_sorted xs h.1)
+
+timed_taken : (x : Merged) (xs : List Merged) → AreTimed (put_in (λ m. m.key) x xs) → (x.key < 2 ^ 62) × AreTimed xs
+timed_taken x [] h = (h.0, tt)
+timed_taken x (y ∷ ys) h = by (nat_lt y.key x.key) (timed_taken x ys) h
+  where
+    by : (b : Bool) → (AreTimed (put_in (λ m. m.key) x ys) → (x.key < 2 ^ 62) × AreTimed ys) → AreTimed (if b then y ∷ put_in (λ m. m.key) x ys else x ∷ y ∷ ys) → (x.key < 2 ^ 62) × AreTimed (y ∷ ys)
+    by true rest g = let r = rest g.1 in (r.0, (g.0, r.1))
+    by false rest g = (g.0, g.1)
+
+timed_unsorted : (xs : List Merged) → AreTimed (by_key xs) → AreTimed xs
+timed_unsorted [] h = tt
+timed_unsorted (x ∷ xs) h = let t = timed_taken x (by_key xs) h in (t.0, timed_unsorted xs t.1)
+
+pub timed_joined : (m : PairMap) (events old new : List Merged) → AreTimed old → IsJoined m events old new → AreTimed new
+timed_joined m events old new timed j = timed_unsorted new (subst AreTimed (sym j.in_order) (timed_sorted (old ++ j.brought) (timed_append old j.brought timed j.timed)))
 
 pub brought_up : (host parent : ℕ) (m : PairMap) (old : List (List Merged)) (none theirs events new : List Merged) → host < length old → parent < length old → host ≢ parent → none ≡ []
     → theirs ≡ get_or (set old host none) parent theirs → (mine : List Merged) → mine ≡ get_or old host mine → events ≡ by_key mine → IsJoined m events theirs new → IsBroughtUp host parent m old (set (set old host none) parent new)

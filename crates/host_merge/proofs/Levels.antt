@@ -11,9 +11,11 @@ use Rattle.host_tree.specs.Rooted.{IsAtDepth, LeadToRoots}
 use Rattle.host_tree.proofs.Gets.{one_get, within}
 use Rattle.trace_types.specs.declared.event.Merged.{Merged}
 use Rattle.host_merge.specs.Depths.{AreDepths}
-use Rattle.host_merge.specs.Lists.{AllAreTimed, AreBroughtUp, AreTimed, IsBroughtUp}
+use Rattle.host_merge.specs.Lists.{AllAreTimed, AreBroughtUp, AreTimed, IsBroughtUp, sorted_at}
 use Rattle.host_merge.specs.Merge.{AreBrought, by_key, children_below, children_of, is_parent}
-use Rattle.host_merge.proofs.Joins.{timed_append}
+use Rattle.host_merge.proofs.Brought.{key_of}
+use Rattle.host_merge.proofs.Filters.{sorted_joined}
+use Rattle.host_merge.proofs.Joins.{sorted_is, timed_joined}
 use Rattle.host_merge.proofs.Ranges.{below_no, below_yes, flat_push, flat_same}
 use Rattle.host_merge.proofs.Times.{are_brought, brought_is, brought_to}
 use Rattle.host_merge.proofs.Ways.{above, depth_below, depth_within, one_depth, root_depth}
@@ -92,18 +94,21 @@ module _ (parents : List Parent) (own : List (List Merged)) where
     pub record AreAtLevel (level host : ℕ) (new : List (List Merged)) : Type 0 where
       pub count : length new ≡ length parents
       pub far : (u : ℕ) → u < length parents → depth u + 1 < level → slice_get new u ≡ Some (own_at u)
-      pub near : (u : ℕ) → u < length parents → depth u + 1 ≡ level → slice_get new u ≡ Some (own_at u ++ flat_map brought (children_below parents u host))
-      pub here : (u : ℕ) → u < length parents → depth u ≡ level → host ≤ u → slice_get new u ≡ Some (own_at u ++ flat_map brought (children_of parents u))
+      pub near : (u : ℕ) → u < length parents → depth u + 1 ≡ level → sorted_at new u ≡ by_key (own_at u ++ flat_map brought (children_below parents u host))
+      pub here : (u : ℕ) → u < length parents → depth u ≡ level → host ≤ u → sorted_at new u ≡ by_key (own_at u ++ flat_map brought (children_of parents u))
       pub timed : AllAreTimed new
 
     own_there : length parents ≡ length own → (u : ℕ) → u < length parents → slice_get own u ≡ Some (own_at u)
     own_there same u h = let w = within own u (omega arith) in w.1 ∙ ap Some (sym (own_is u w.0 w.1))
 
+    untouched : (new : List (List Merged)) (u : ℕ) → slice_get new u ≡ Some (own_at u) → sorted_at new u ≡ by_key (own_at u ++ [])
+    untouched new u e = sorted_is new u (own_at u) e ∙ ap by_key (sym (append-nil (own_at u)))
+
     pub first_level : length parents ≡ length own → AllAreTimed own → AreAtLevel (length parents) 0 own
     first_level same timed = record {
       count = sym same;
       far = λ u h d. own_there same u h;
-      near = λ u h d. own_there same u h ∙ ap Some (sym (append-nil (own_at u)));
+      near = λ u h d. untouched own u (own_there same u h);
       here = λ u h d b. absurd (omega (arith, low u h));
       timed = timed;
     }
@@ -112,7 +117,7 @@ module _ (parents : List Parent) (own : List (List Merged)) where
     next_level level new a = record {
       count = a.count;
       far = λ u h d. a.far u h (omega arith);
-      near = λ u h d. a.far u h (omega arith) ∙ ap Some (sym (append-nil (own_at u)));
+      near = λ u h d. untouched new u (a.far u h (omega arith));
       here = λ u h d b. a.near u h (omega arith);
       timed = a.timed;
     }
@@ -122,7 +127,7 @@ module _ (parents : List Parent) (own : List (List Merged)) where
     passed_over level host new inside other a = record {
       count = a.count;
       far = a.far;
-      near = λ u h d. a.near u h d ∙ ap (λ l. Some (own_at u ++ flat_map brought l)) (sym (below_no (λ c. is_parent u (slice_get parents c)) host (no_child u d (is_parent u (slice_get parents host)) refl)));
+      near = λ u h d. a.near u h d ∙ ap (λ l. by_key (own_at u ++ flat_map brought l)) (sym (below_no (λ c. is_parent u (slice_get parents c)) host (no_child u d (is_parent u (slice_get parents host)) refl)));
       here = λ u h d b. a.here u h d (omega arith);
       timed = a.timed;
     }
@@ -131,13 +136,16 @@ module _ (parents : List Parent) (own : List (List Merged)) where
         no_child u d true e = let p = is_parent_of u (slice_get parents host) e in let s = below_parent host u p.0 p.1 in absurd (other (omega (arith, s.1, d)))
         no_child u d false e = e
 
+    as_before : (old new : List (List Merged)) (u : ℕ) → slice_get new u ≡ slice_get old u → sorted_at new u ≡ sorted_at old u
+    as_before old new u e = ap (λ o. by_key (unwrap_or o [])) e
+
     near_more : (level host parent u : ℕ) (m : PairMap) (old new : List (List Merged)) → u < length parents → depth u + 1 ≡ level → depth host ≡ level → slice_get parents host ≡ Some (Child parent m)
-        → IsBroughtUp host parent m old new → AreAtLevel level host old → slice_get new parent ≡ Some (own_at parent ++ flat_map brought (children_below parents parent (host + 1)))
-        → (u ≡ parent) ⊎ (u ≡ parent → ⊥) → slice_get new u ≡ Some (own_at u ++ flat_map brought (children_below parents u (host + 1)))
-    near_more level host parent u m old new h d at e up a there (inl same) = subst (λ x. slice_get new x ≡ Some (own_at x ++ flat_map brought (children_below parents x (host + 1)))) (sym same) there
+        → IsBroughtUp host parent m old new → AreAtLevel level host old → sorted_at new parent ≡ by_key (own_at parent ++ flat_map brought (children_below parents parent (host + 1)))
+        → (u ≡ parent) ⊎ (u ≡ parent → ⊥) → sorted_at new u ≡ by_key (own_at u ++ flat_map brought (children_below parents u (host + 1)))
+    near_more level host parent u m old new h d at e up a there (inl same) = subst (λ x. sorted_at new x ≡ by_key (own_at x ++ flat_map brought (children_below parents x (host + 1)))) (sym same) there
     near_more level host parent u m old new h d at e up a there (inr ne) =
-        up.others u (λ s. omega (arith, at, d, ap depth s)) ne
-        ∙ (a.near u h d ∙ ap (λ l. Some (own_at u ++ flat_map brought l)) (sym (below_no (λ c. is_parent u (slice_get parents c)) host (not_parent_of u parent m (slice_get parents host) e ne))))
+        as_before old new u (up.others u (λ s. omega (arith, at, d, ap depth s)) ne)
+        ∙ (a.near u h d ∙ ap (λ l. by_key (own_at u ++ flat_map brought l)) (sym (below_no (λ c. is_parent u (slice_get parents c)) host (not_parent_of u parent m (slice_get parents host) e ne))))
 
     timed_more : (level host parent k : ℕ) (m : PairMap) (l n : List Merged) (old new : List (List Merged)) → IsBroughtUp host parent m old new → AreAtLevel level host old → slice_get new k ≡ Some l
         → slice_get new parent ≡ Some n → AreTimed n → (k ≡ parent) ⊎ (k ≡ parent → ⊥) → (k ≡ host) ⊎ (k ≡ host → ⊥) → AreTimed l
@@ -151,21 +159,25 @@ module _ (parents : List Parent) (own : List (List Merged)) where
     unfolding brought to_parent lists
     one_brought_up level host parent m old new inside at e up a =
         let p = below_parent host parent m e in
-        let mine = a.here host inside at (omega arith) in
-        let theirs = a.near parent p.0 (omega (arith, p.1, at)) in
-        let j = up.joined _ _ mine theirs in
-        let is : j.2.brought ≡ brought host = is_brought j.2.brought j.2.are in
-        let there : slice_get new parent ≡ Some (own_at parent ++ flat_map brought (children_below parents parent (host + 1))) =
-        j.1 ∙ ap Some (j.2.at_end ∙ (ap (λ l. own_at parent ++ flat_map brought (children_below parents parent host) ++ l) is
+        let mine = within old host (omega (arith, a.count)) in
+        let theirs = within old parent (omega (arith, a.count, p.0)) in
+        let before : List Merged = own_at parent ++ flat_map brought (children_below parents parent host) in
+        let own_order : by_key mine.0 ≡ by_key (own_at host ++ flat_map brought (children_of parents host)) = sym (sorted_is old host mine.0 mine.1) ∙ a.here host inside at (omega arith) in
+        let their_order : by_key theirs.0 ≡ by_key before = sym (sorted_is old parent theirs.0 theirs.1) ∙ a.near parent p.0 (omega (arith, p.1, at)) in
+        let j = up.joined mine.0 theirs.0 mine.1 theirs.1 in
+        let is : j.2.brought ≡ brought host = is_brought j.2.brought (subst (λ l. AreBrought m l j.2.brought) own_order j.2.are) in
+        let there : sorted_at new parent ≡ by_key (own_at parent ++ flat_map brought (children_below parents parent (host + 1))) =
+        sorted_is new parent j.0 j.1 ∙ (j.2.in_order ∙ (sorted_joined key_of theirs.0 before j.2.brought their_order
+        ∙ ap by_key (ap (λ l. before ++ l) is
         ∙ (append_assoc (own_at parent) (flat_map brought (children_below parents parent host)) (brought host)
         ∙ ap (λ l. own_at parent ++ l) (sym (flat_push brought (children_below parents parent host) host)
-        ∙ ap (flat_map brought) (sym (below_yes (λ c. is_parent parent (slice_get parents c)) host (ap (is_parent parent) e ∙ eq-eqb parent parent refl))))))) in
+        ∙ ap (flat_map brought) (sym (below_yes (λ c. is_parent parent (slice_get parents c)) host (ap (is_parent parent) e ∙ eq-eqb parent parent refl)))))))) in
         record {
           count = up.count ∙ a.count;
           far = λ u h d. up.others u (λ s. omega (arith, at, d, ap depth s)) (λ s. omega (arith, p.1, at, d, ap depth s)) ∙ a.far u h d;
           near = λ u h d. near_more level host parent u m old new h d at e up a there (cases_eq u parent);
-          here = λ u h d b. up.others u (λ s. omega (arith, s)) (λ s. omega (arith, p.1, at, d, ap depth s)) ∙ a.here u h d (omega arith);
-          timed = λ k l f. timed_more level host parent k m l j.0 old new up a f j.1 (subst AreTimed (sym j.2.at_end) (timed_append _ j.2.brought (a.timed parent _ theirs) j.2.timed)) (cases_eq k parent) (cases_eq k host);
+          here = λ u h d b. as_before old new u (up.others u (λ s. omega (arith, s)) (λ s. omega (arith, p.1, at, d, ap depth s))) ∙ a.here u h d (omega arith);
+          timed = λ k l f. timed_more level host parent k m l j.0 old new up a f j.1 (timed_joined m (by_key mine.0) theirs.0 j.0 (a.timed parent theirs.0 theirs.1) j.2) (cases_eq k parent) (cases_eq k host);
         }
       where
         is_brought : (b : List Merged) → AreBrought m (by_key (own_at host ++ flat_map brought (children_of parents host))) b → b ≡ brought host
@@ -180,7 +192,9 @@ module _ (parents : List Parent) (own : List (List Merged)) where
       count = a.count ∙ same;
       of_host = λ u l e. list_is u (inside u l e) ∙ ap (λ x. by_key (x ++ flat_map brought (children_of parents u))) (own_is u l e);
       moved = λ child parent m e. moved child parent m e;
-      ready = λ u l root e. a.here u (inside u l e) (root_depth parents (depth u) u root (depth_is u (inside u l e))) (omega arith) ∙ ap (λ x. Some (x ++ flat_map brought (children_of parents u))) (own_is u l e);
+      ready = λ u root.
+          let h = slice_get_within parents u Root root in
+          a.here u h (root_depth parents (depth u) u root (depth_is u h)) (omega arith) ∙ sym (list_is u h);
     }
       where
         inside : (u : ℕ) (l : List Merged) → slice_get own u ≡ Some l → u < length parents

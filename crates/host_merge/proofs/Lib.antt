@@ -2,6 +2,7 @@ pub mod Joins
 pub mod Levels
 pub mod Ranges
 pub mod Times
+pub mod Merges
 pub mod Ways
 pub mod Wholes
 pub mod Places

@@ -1,5 +1,5 @@
 -- Where a map takes a time, as a function.
-use Rattle.std.proofs.Common.{◌≡◌, ℕ, ℤ, ◌-◌, ◌^◌, pos, ◌+ℤ◌, arith, List, [], ◌∷◌, map, refl, ap₂}
+use Rattle.std.proofs.Common.{◌≡◌, ◌<◌, ℕ, ℤ, ◌-◌, ◌^◌, pos, ◌+ℤ◌, arith, List, [], ◌∷◌, map, refl, ap₂}
 use Rattle.std.specs.Int.{int_div_euclid, int_max, int_min}
 use Rattle.std.specs.Int.RustNames.{unsigned_abs}
 use Rattle.std.proofs.lemmas.Int.{ints, clamps}
@@ -8,6 +8,7 @@ use Rattle.clock_fraction.specs.declared.pair_map.PairMap.{PairMap}
 use Rattle.clock_fraction.proofs.Heights.{height, height_is_floor}
 use Rattle.clock_fraction.proofs.Means.{half_is, maps_same}
 use Rattle.trace_types.specs.declared.event.Merged.{Merged}
+use Rattle.host_merge.specs.Lists.{AreTimed}
 use Rattle.host_merge.specs.Merge.{AreBrought}
 
 pub time_at : PairMap → ℕ → ℕ
@@ -32,6 +33,9 @@ time_is m x =
       time_is = drawn half (int_max (pos 0) (int_min half (pos (2 ^ 62 - 1)))) refl;
     }
 
+time_below : (m : PairMap) (x : ℕ) → time_at m x < 2 ^ 62
+time_below m x = omega (arith, ints, clamps, (time_is m x).time_is)
+
 -- an event brought to another clock
 abbrev pub brought_to : PairMap → Merged → Merged
 brought_to m x = record { key = time_at m x.key; event = x.event }
@@ -48,3 +52,7 @@ brought_is m (x ∷ xs) (y ∷ ys) a =
     let key : y.key ≡ time_at m x.key = maps_same m x.key y.key (time_at m x.key) a.1 (time_is m x.key) in
     let same : y ≡ record { key = time_at m x.key; event = x.event } = ap₂ (λ k e. record { key = k; event = e }) key a.0 in
     ap₂ (λ z zs. z ∷ zs) same (brought_is m xs ys a.2)
+
+pub brought_timed : (m : PairMap) (xs : List Merged) → AreTimed (map (brought_to m) xs)
+brought_timed m [] = tt
+brought_timed m (x ∷ xs) = (time_below m x.key, brought_timed m xs)

@@ -1,5 +1,5 @@
 -- The merge as a whole.
-use Rattle.std.proofs.Common.{◌≡◌, ◌<◌, ◌^◌, ℕ, suc, true, Option, None, Some, List, [], ◌∷◌, length, map, slice_get, unwrap_or, refl, sym, ap, ◌∙◌, subst, arith}
+use Rattle.std.proofs.Common.{◌≡◌, ◌<◌, ◌^◌, ℕ, suc, true, Option, None, Some, List, [], ◌∷◌, length, map, slice_get, refl, ap, ◌∙◌, subst, arith}
 use Rattle.std.specs.List.{flat_map, range_with_len}
 use Rattle.std.specs.Option.{option_map}
 use Rattle.std.proofs.lemmas.List.{length-map}
@@ -43,14 +43,8 @@ merge_is parents hosts new whole same up is = record {
   brought = up.brought;
   of_host = λ u host e. up.of_host u (map with_own_time host.events.items) (own_list hosts u host e);
   moved = up.moved;
-  whole = is ∙ ap by_key (flat_same (sorted_at new) up.lists (λ c. is_root (slice_get parents c)) (range_with_len 0 (length parents)) (λ c t. root c (root_is (slice_get parents c) t)));
+  whole = is ∙ ap by_key (flat_same (sorted_at new) up.lists (λ c. is_root (slice_get parents c)) (range_with_len 0 (length parents)) (λ c t. up.ready c (root_is (slice_get parents c) t)));
 }
-  where
-    root : (c : ℕ) → slice_get parents c ≡ Some Root → sorted_at new c ≡ up.lists c
-    root c e =
-        let h = within hosts c (omega (arith, slice_get_within parents c Root e)) in
-        let own = own_list hosts c h.0 h.1 in
-        ap (λ o. by_key (unwrap_or o [])) (up.ready c (map with_own_time h.0.events.items) e own) ∙ sym (up.of_host c (map with_own_time h.0.events.items) own)
 
 rise : (k : ℕ) (xs : List Merged) → InOrder (λ m. m.key) xs → NoneBelow (λ m. m.key) k xs → RiseFrom k xs
 rise k [] order above = tt

@@ -24,25 +24,25 @@ own_lists hosts = map (λ host. map with_own_time host.events.items) hosts
 abbrev pub sorted_at : List (List Merged) → ℕ → List Merged
 sorted_at lists k = by_key (unwrap_or (slice_get lists k) [])
 
--- the list has the events of another one at its end, brought to its clock
+-- the list has the events of another one too, brought to its clock: its stable order is that of the old one with them at its end
 pub record IsJoined (map : PairMap) (events old new : List Merged) : Type 0 where
   pub brought : List Merged
   pub are : AreBrought map events brought
   pub timed : AreTimed brought
-  pub at_end : new ≡ old ++ brought
+  pub in_order : by_key new ≡ by_key (old ++ brought)
 
--- the sorted list of a host stands at the end of its parent's
+-- the sorted list of a host is joined to its parent's
 pub record IsBroughtUp (host parent : ℕ) (map : PairMap) (old new : List (List Merged)) : Type 0 where
   pub count : length new ≡ length old
   pub emptied : slice_get new host ≡ Some []
   pub joined : (l m : List Merged) → slice_get old host ≡ Some l → slice_get old parent ≡ Some m → (n : List Merged) × (slice_get new parent ≡ Some n) × IsJoined map (by_key l) m n
   pub others : (k : ℕ) → k ≢ host → k ≢ parent → slice_get new k ≡ slice_get old k
 
--- the lists of the roots have all that stands below them
+-- the lists of the roots, sorted, have all that stands below them
 pub record AreBroughtUp (parents : List Parent) (old new : List (List Merged)) : Type 0 where
   pub lists : ℕ → List Merged
   pub brought : ℕ → List Merged
   pub count : length new ≡ length old
   pub of_host : (u : ℕ) (l : List Merged) → slice_get old u ≡ Some l → lists u ≡ by_key (l ++ flat_map brought (children_of parents u))
   pub moved : (child parent : ℕ) (map : PairMap) → slice_get parents child ≡ Some (Child parent map) → AreBrought map (lists child) (brought child)
-  pub ready : (u : ℕ) (l : List Merged) → slice_get parents u ≡ Some Root → slice_get old u ≡ Some l → slice_get new u ≡ Some (l ++ flat_map brought (children_of parents u))
+  pub ready : (u : ℕ) → slice_get parents u ≡ Some Root → sorted_at new u ≡ lists u

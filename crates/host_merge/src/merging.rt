@@ -65,6 +65,7 @@ fn bring_all_up<'a>(
     ensures times { OnOk result (AllAreTimed lists.new.items) }
 {
     let count = forest.len();
+    let mut spare = MergedList::new(alloc);
     for step in 0..count {
         let depth = count - step;
         for host in 0..count {
@@ -74,7 +75,7 @@ fn bring_all_up<'a>(
             let Parent::Child { parent, map } = forest[host] else {
                 continue;
             };
-            bring_up(alloc, lists, host, parent as usize, &map)?;
+            bring_up(alloc, lists, host, parent as usize, &map, &mut spare)?;
         }
     }
     Ok(())
@@ -86,6 +87,7 @@ fn bring_up<'a>(
     host: usize,
     parent: usize,
     map: &PairMap,
+    spare: &mut MergedList<'a>,
 ) -> Result<(), OutOfMemory>
     requires host { host < length lists.old.items }
     requires parent { parent < length lists.old.items }
@@ -93,9 +95,8 @@ fn bring_up<'a>(
     requires times { AllAreTimed lists.old.items }
     ensures { OnOk result (IsBroughtUp host parent map.now lists.old.items lists.new.items) }
 {
-    let mut list = mem::replace(&mut lists[host], MergedList::new(alloc));
-    list.sort()?;
-    lists[parent].bring(list.as_slice(), map)
+    let list = mem::replace(&mut lists[host], MergedList::new(alloc));
+    lists[parent].bring(list, map, spare)
 }
 
 fn join_roots<'a>(

@@ -1,21 +1,24 @@
-use Rattle.std.proofs.Common.{◌≡◌, ◌+◌, List, get_or, take, subst, sym}
-use Rattle.std.proofs.lemmas.List.{take_all}
-use Rattle.trace_types.specs.declared.event.Merged.{Merged}
-use Rattle.host_merge.specs.Lists.{IsJoined}
-use Rattle.host_merge.proofs.Joins.{joined_more, none_joined}
+use Rattle.std.proofs.Common.{sym, ◌∙◌, subst}
+use Rattle.host_merge.specs.Lists.{AreTimed, IsJoined}
+use Rattle.host_merge.specs.Merge.{by_key}
+use Rattle.host_merge.proofs.Joins.{by_own_order, joined_unsorted, timed_sorted}
 use Rattle.host_merge.proofs.lists.MergedList.bring.Goals as goal
 
-pub loop-head-init : goal.loop-head-init
-loop-head-init c = none_joined c.args.map.now c.self.inside.heads.items c.args.self.now c.self.view_is
+pub put_at_end-requires : goal.put_at_end-requires
+put_at_end-requires c = subst AreTimed (sym (c.as_slice.ensures.value ∙ (c.other.view_is ∙ c.in_ok-sort.ensures))) (timed_sorted c.args.other c.requires)
 
-pub loop-head-preserved : goal.loop-head-preserved
-loop-head-preserved c =
-    let events = c.args.events.now in
-    let i = c.loop-head.head-index in
-    let x : Merged = record { key = c.head.inside.key; event = c.head.inside.event.now } in
-    let at : x ≡ get_or events i x = subst (λ m. m ≡ get_or events i m) (sym c.head.view_is) c.head-item.is in
-    subst (IsJoined c.args.map.now (take (i + 1) events) c.args.self.now) (sym {A = List Merged} c.in_ok-push.ensures.items)
-    (joined_more c.args.map.now events c.args.self.now c.loop-head.self-inside.heads.items i c.map.result x c.loop-head-test.true at c.map.ensures.value c.map.ensures.range c.loop-head.invariant)
+pub merge-requires-clause-own : goal.merge-requires-clause-own
+merge-requires-clause-own c = by_own_order c.as_slice-2.result.now c.args.self.now (c.as_slice-2.ensures.value ∙ (c.self-2.view_is ∙ c.in_ok-sort-2.ensures))
+
+pub merge-requires-clause-others : goal.merge-requires-clause-others
+merge-requires-clause-others c = by_own_order c.as_slice-3.result.now c.args.other (c.as_slice-3.ensures.value ∙ (c.other.view_is ∙ c.in_ok-sort.ensures))
+
+pub merge-requires-clause-times : goal.merge-requires-clause-times
+merge-requires-clause-times c = subst AreTimed (sym (c.as_slice-3.ensures.value ∙ (c.other.view_is ∙ c.in_ok-sort.ensures))) (timed_sorted c.args.other c.requires)
 
 pub returns : goal.returns
-returns c = subst (λ xs. IsJoined c.args.map.now xs c.args.self.now c.loop-head.self-inside.heads.items) (take_all c.loop-head.head-index c.args.events.now c.loop-head-test.false) c.loop-head.invariant
+returns c =
+    let new = c.merge.new.heads.items in
+    rw c.replace.ensures.value (joined_unsorted c.args.map.now (by_key c.args.other) c.args.self.now new
+    (subst (λ own. IsJoined c.args.map.now (by_key c.args.other) own new) (c.as_slice-2.ensures.value ∙ (c.self-2.view_is ∙ c.in_ok-sort-2.ensures))
+    (subst (λ others. IsJoined c.args.map.now others c.as_slice-2.result.now new) (c.as_slice-3.ensures.value ∙ (c.other.view_is ∙ c.in_ok-sort.ensures)) c.in_ok-merge.ensures)))
