@@ -7,6 +7,7 @@ pub mod KindViews
 pub mod ByteNames
 pub mod Numbered
 pub mod Options
+pub mod Prefixes
 pub mod Listing
 pub mod Spaced
 pub mod Splitting

@@ -14,6 +14,7 @@ mod narrow;
 mod numbering;
 mod one;
 mod parsed_line;
+mod spelled;
 mod split;
 mod thread;
 mod trace;
@@ -23,6 +24,7 @@ mod write_fields;
 
 pub use laws::one_list;
 pub use list::{ListError, read_list};
+pub use spelled::{name_of, names_of, spell_bytes};
 pub use split::split_hosts;
 pub use trace::{MergedTrace, NameList};
-pub use write::write_line;
+pub use write::{append_line, write_line};

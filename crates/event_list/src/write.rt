@@ -25,14 +25,15 @@ pub fn write_line(event: &Merged, names: &[Text], out: &mut Vec<u8>) -> Result<(
     ensures err { OnErr result (out.new.items ≡ out.old.items) }
 {
     let mut line = Vec::with_capacity(*out.allocator(), LINE)?;
-    write_words(event, names, &mut line)?;
+    append_line(event, names, &mut line)?;
     out.extend_from_slice(&line)?;
     Ok(())
 }
 
-// The same, where a front of the line may be left after it.
+/// Appends the line of an event. `names` are those of its host. The only error is lack of memory, after which a front
+/// of the line may be left.
 #[tactic(auto, using(crate::proofs::Spaced::line_is))]
-fn write_words(event: &Merged, names: &[Text], out: &mut Vec<u8>) -> Result<(), OutOfMemory>
+pub fn append_line(event: &Merged, names: &[Text], out: &mut Vec<u8>) -> Result<(), OutOfMemory>
     ensures text { OnOk result (out.new.items ≡ out.old.items ++ line_text names.now event.now) }
     ensures bytes { OnOk result (AllByRecursion AreBytes (texts_in names.now event.now.event.kind)) }
 {

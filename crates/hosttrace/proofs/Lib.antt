@@ -2,6 +2,7 @@ pub mod Parts
 pub mod QuestionLines
 pub mod Refused
 pub mod Written
+pub mod EventLines
 pub mod OneOrder
 pub mod Complete
 pub mod Fails

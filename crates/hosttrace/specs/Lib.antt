@@ -15,3 +15,4 @@ pub mod Refusals
 pub mod Means
 pub mod Outcome
 pub mod Writing
+pub mod Outputs

@@ -1,8 +1,10 @@
 //! The top calls, and what each command does.
 ghost use Rattle.std.specs.Prelude.{◌≡◌, [], IfOk, IfErr, IfSome, map, string_bytes};
 ghost use Rattle.command_words.specs.Words.{HasRanges, InputHasRange, IsDrift};
+ghost use Rattle.event_list.specs.Names.{lines_of, names_at};
 ghost use Rattle.hosttrace.specs.Means.{IsAskOutput, IsCheckOutput, IsEventsOutput, IsOutput, IsReportOutput, IsStateOutput};
 ghost use Rattle.hosttrace.specs.Outcome.{IsOutcome, IsPlainOutcome, Leaves, PlainLeaves, PlainMeans};
+ghost use Rattle.hosttrace.specs.Outputs.{output_text};
 ghost use Rattle.hosttrace.specs.Refusals.{AskRefuses, CheckRefuses, ClusterRefuses, InputRefuses, Refuses};
 ghost use Rattle.hosttrace.specs.Seen.{FailsBy, OnlyReads, not_seen, sink_seen, store_seen};
 ghost use Rattle.hosttrace.specs.Statuses.{IsTold};
@@ -12,13 +14,14 @@ use crate::folders::{is_crowd, read_folders};
 use crate::hosts::{check_text, read_hosts};
 use crate::inputs::{read_asked, read_input};
 use crate::making::text_of_make;
+use crate::outputs::{Output, write_output};
 use crate::paths::{Window, text_of_path};
 use crate::status::{Limit, Refusal, Status};
 use crate::status_line::write_status;
-use crate::writing::write_text;
 use command_words::{Command, Input, PlainCommand, WordsError, parse_words};
+use event_list::{MergedTrace, spell_bytes};
 use ht_outside::{Gate, Sink, SinkError, Store};
-use report_views::{answers_text, events_text, state_text};
+use report_views::{answers_text, state_text};
 use std::alloc::Global;
 use std::thread::Threads;
 use trace_types::Text;
@@ -78,43 +81,47 @@ fn perform<S: Store, K: Sink>(
     ensures leaves { PlainLeaves command.now (record { store = store_seen S.holds S.faults store.old store.new; out = sink_seen K.contents K.faults out.old out.new; err = not_seen }) result }
     ensures reads { OnlyReads (store_seen S.holds S.faults store.old store.new) }
 {
-    let text = match text_of(threads, alloc, command, store) {
-        Ok(text) => text,
+    let output = match output_of(threads, alloc, command, store) {
+        Ok(output) => output,
         Err(status) => return status,
     };
-    match write_text(out, &text) {
+    match write_output(threads, alloc, &output, out) {
         Ok(()) => Status::Done,
         Err(SinkError::Failed) => Status::WriteFault,
         Err(SinkError::OutOfMemory) => Status::NoMemory,
     }
 }
 
-// The text of a command, or the status that tells why it has none.
-fn text_of<S: Store>(
+// What a command writes, or the status that tells why it writes nothing.
+fn output_of<S: Store>(
     threads: &(impl Threads + Sync),
     alloc: Global,
     command: &PlainCommand,
     store: &mut S,
-) -> Result<Vec<u8>, Status>
+) -> Result<Output, Status>
     requires { HasRanges command.now }
-    ensures text { IfOk result (λ text. IfSome (S.holds store.old) (λ files. IsOutput command.now files text.items)) }
+    ensures text { IfOk result (λ output. IfSome (S.holds store.old) (λ files. IsOutput command.now files (output_text output))) }
     ensures fails { IfErr result (λ status. FailsBy (Refuses command.now) (store_seen S.holds S.faults store.old store.new) status) }
     ensures reads { OnlyReads (store_seen S.holds S.faults store.old store.new) }
 {
     match command {
-        PlainCommand::Check { folders } => text_of_check(alloc, folders.as_slice(), store),
+        PlainCommand::Check { folders } => {
+            Ok(Output::Text(text_of_check(alloc, folders.as_slice(), store)?))
+        }
         PlainCommand::Report { folders, drift } => {
-            text_of_report(threads, alloc, folders.as_slice(), *drift, store)
+            Ok(Output::Text(text_of_report(threads, alloc, folders.as_slice(), *drift, store)?))
         }
         PlainCommand::Events { folders, drift } => {
-            text_of_events(threads, alloc, folders.as_slice(), *drift, store)
+            Ok(Output::Events(listed_events(threads, alloc, folders.as_slice(), *drift, store)?))
         }
-        PlainCommand::State { input, at } => text_of_state(threads, alloc, input, *at, store),
+        PlainCommand::State { input, at } => {
+            Ok(Output::Text(text_of_state(threads, alloc, input, *at, store)?))
+        }
         PlainCommand::Ask {
             input,
             questions,
             once: _,
-        } => { text_of_ask(threads, alloc, input, questions, store) }
+        } => { Ok(Output::Text(text_of_ask(threads, alloc, input, questions, store)?)) }
         PlainCommand::Path {
             input,
             host,
@@ -128,13 +135,13 @@ fn text_of<S: Store>(
                 from: *from,
                 to: *to,
             };
-            text_of_path(threads, alloc, input, window, store)
+            Ok(Output::Text(text_of_path(threads, alloc, input, window, store)?))
         }
         PlainCommand::Make {
             number,
             hosts,
             rounds,
-        } => text_of_make(threads, alloc, *number, *hosts, *rounds),
+        } => { Ok(Output::Text(text_of_make(threads, alloc, *number, *hosts, *rounds)?)) }
     }
 }
 
@@ -175,20 +182,21 @@ fn text_of_report<S: Store>(
 }
 
 // All events of the traces of folders.
-fn text_of_events<S: Store>(
+fn listed_events<S: Store>(
     threads: &(impl Threads + Sync),
     alloc: Global,
     folders: &[Text],
     drift: u32,
     store: &mut S,
-) -> Result<Vec<u8>, Status>
+) -> Result<MergedTrace, Status>
     requires { IsDrift drift }
-    ensures text { IfOk result (λ text. IfSome (S.holds store.old) (λ files. IsEventsOutput files folders.now drift text.items)) }
+    ensures text { IfOk result (λ trace. IfSome (S.holds store.old) (λ files. IsEventsOutput files folders.now drift (lines_of (names_at trace.names.items) trace.events.items))) }
     ensures fails { IfErr result (λ status. FailsBy (λ files refusal. ClusterRefuses files folders.now refusal) (store_seen S.holds S.faults store.old store.new) status) }
     ensures reads { OnlyReads (store_seen S.holds S.faults store.old store.new) }
 {
     let trace = read_merge(threads, alloc, folders, drift, store)?;
-    Ok(events_text(threads, alloc, &trace)?)
+    spell_bytes(&trace.names, &trace.events);
+    Ok(trace)
 }
 
 // The state at an instant, of an input.

@@ -9,6 +9,7 @@ mod hosts;
 mod inputs;
 mod laws;
 mod making;
+mod outputs;
 mod paths;
 mod questions;
 mod reading;

@@ -2,6 +2,7 @@ pub mod RowValues
 pub mod Replayed
 pub mod Listed
 pub mod AnswerLines
+pub mod Batches
 pub mod CallNames
 pub mod ReportLines
 pub mod MarkCounts

@@ -1,15 +1,14 @@
-//! The text of merged events. Stretches of lines are written side by side, and joined in their order.
-ghost use Rattle.std.specs.Prelude.{◌≡◌, ◌++◌, IfOk, flat_map};
+//! The text of merged events, batch by batch. A batch's stretches of lines are written side by side.
+ghost use Rattle.std.specs.Prelude.{◌≡◌, ◌≤◌, ◌<◌, ◌↔◌, All, IfOk, IsTrue, flat_map, length, take};
 ghost use Rattle.event_list.specs.Lines.{first_line};
-ghost use Rattle.event_list.specs.Names.{lines_of, names_at};
-ghost use Rattle.event_list.specs.Written.{SpellBytes};
-ghost use Rattle.report_views.specs.Stretches.{IsStretchText};
+ghost use Rattle.event_list.specs.Names.{names_at};
+ghost use Rattle.report_views.specs.Stretches.{AreShort, IsStretchText, printed_size};
 
-use event_list::{MergedTrace, NameList, write_line};
+use event_list::{NameList, append_line, name_of, names_of};
 use rayon::prelude::*;
 use std::alloc::Global;
 use std::thread::Threads;
-use trace_types::{Merged, OutOfMemory};
+use trace_types::{Merged, OutOfMemory, Text};
 
 const FIRST_LINE: &[u8] = b"hosttrace events 1\n";
 
@@ -17,24 +16,71 @@ const FIRST_LINE: &[u8] = b"hosttrace events 1\n";
 const LINE_SIZE: usize = 80;
 
 // How many events a stretch has. Fewer than two full stretches are written on one thread.
-const STRETCH_LENGTH: usize = 8_192;
+const STRETCH_LENGTH: usize = 4_096;
 
-/// The list of all events. The only error is lack of memory.
-pub fn events_text(
-    threads: &(impl Threads + Sync),
-    alloc: Global,
-    trace: &MergedTrace,
-) -> Result<Vec<u8>, OutOfMemory>
-    ensures text { IfOk result (λ text. text.items ≡ lines_of (names_at trace.now.names.items) trace.now.events.items) }
-    ensures bytes { IfOk result (λ text. SpellBytes (names_at trace.now.names.items) trace.now.events.items) }
+/// How many events a batch has at most: sixteen stretches.
+pub const BATCH_LENGTH: usize = 65_536;
+
+/// How many bytes the names in a batch's lines have together at most, unless the batch is a single event.
+pub const NAMES_SIZE: usize = 67_108_864;
+
+// Events whose names are no longer than this make a full batch.
+const SHORT_NAME: usize = NAMES_SIZE / BATCH_LENGTH;
+
+/// The first line of a list of events.
+pub fn events_head() -> &'static [u8]
+    ensures { result.now ≡ first_line }
 {
-    let names = trace.names.as_slice();
-    let stretches = write_stretches(threads, alloc, names, trace.events.as_slice())?;
-    join_stretches(alloc, stretches)
+    FIRST_LINE
 }
 
-// The lines of events, stretch by stretch, whatever the number of processors.
-fn write_stretches(
+/// How many of the first events make a batch: at least one, where there is one.
+pub fn batch_length(names: &[NameList], events: &[Merged]) -> usize
+    ensures some { 0 < length events.now → 0 < result }
+    ensures within { result ≤ length events.now }
+    ensures few { result ≤ BATCH_LENGTH }
+    ensures small { 1 < result → printed_size (names_at names.now) (take result events.now) ≤ NAMES_SIZE }
+{
+    let front = &events[..events.len().min(BATCH_LENGTH)];
+    if are_all_short(names) {
+        front.len()
+    } else {
+        small_length(names, front)
+    }
+}
+
+// Whether no name of any host is long.
+fn are_all_short(names: &[NameList]) -> bool
+    ensures { IsTrue result ↔ All (AreShort SHORT_NAME) names.now }
+{
+    names.iter().all(|names| are_short(names.as_slice()))
+}
+
+fn are_short(names: &[Text]) -> bool
+    ensures { IsTrue result ↔ AreShort SHORT_NAME names.now }
+{
+    names.iter().all(|name| name.as_bytes().len() <= SHORT_NAME)
+}
+
+// How many of the first events have names of at most `NAMES_SIZE` bytes together; at least one, where there is one.
+fn small_length(names: &[NameList], events: &[Merged]) -> usize
+    ensures some { 0 < length events.now → 0 < result }
+    ensures within { result ≤ length events.now }
+    ensures small { 1 < result → printed_size (names_at names.now) (take result events.now) ≤ NAMES_SIZE }
+{
+    let mut size = 0usize;
+    for (count, event) in events.iter().enumerate() {
+        let name = name_of(names_of(names, event.event.host), &event.event.kind);
+        size = size.saturating_add(name.len());
+        if count > 0 && size > NAMES_SIZE {
+            return count;
+        }
+    }
+    events.len()
+}
+
+/// The lines of events, stretch by stretch, whatever the number of processors. The only error is lack of memory.
+pub fn batch_texts(
     threads: &(impl Threads + Sync),
     alloc: Global,
     names: &[NameList],
@@ -64,27 +110,7 @@ fn write_stretch(
     let size = events.len().saturating_mul(LINE_SIZE);
     let mut text = Vec::with_capacity(alloc, size)?;
     for event in events {
-        let names = match names.get(event.event.host as usize) {
-            Some(names) => names.as_slice(),
-            None => &[],
-        };
-        write_line(event, names, &mut text)?;
-    }
-    Ok(text)
-}
-
-// The first line and the stretches, one after the other. The memory of each is free as soon as it is joined.
-fn join_stretches(alloc: Global, stretches: Vec<Vec<u8>>) -> Result<Vec<u8>, OutOfMemory>
-    ensures { IfOk result (λ text. text.items ≡ first_line ++ flat_map (λ stretch. stretch.items) stretches.items) }
-{
-    let mut size = FIRST_LINE.len();
-    for stretch in &stretches {
-        size = size.saturating_add(stretch.len());
-    }
-    let mut text = Vec::with_capacity(alloc, size)?;
-    text.extend_from_slice(FIRST_LINE)?;
-    for stretch in stretches {
-        text.extend_from_slice(stretch.as_slice())?;
+        append_line(event, names_of(names, event.event.host), &mut text)?;
     }
     Ok(text)
 }

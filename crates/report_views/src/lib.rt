@@ -18,7 +18,7 @@ mod time_lines;
 mod value_text;
 
 pub use answers::answers_text;
-pub use events::events_text;
+pub use events::{BATCH_LENGTH, NAMES_SIZE, batch_length, batch_texts, events_head};
 pub use host_report::report;
 pub use made::made_text;
 pub use pieces::pieces_text;

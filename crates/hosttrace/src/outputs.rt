@@ -1,0 +1,108 @@
+//! What a command writes, and writing it to a sink.
+ghost use Rattle.std.specs.Prelude.{OnOk, OnErr, flat_map};
+ghost use Rattle.std.specs.Io.KnownBytes.{Appends};
+ghost use Rattle.event_list.specs.Names.{lines_of, names_at};
+ghost use Rattle.hosttrace.specs.Outputs.{event_lines, output_text};
+ghost use Rattle.hosttrace.specs.Writing.{AppendsFront};
+ghost use Rattle.ht_outside.specs.Faults.{IsCaused};
+ghost use Rattle.ht_outside.specs.declared.sink.SinkError.TheVariants.{Failed};
+
+use crate::writing::write_text;
+use event_list::{MergedTrace, NameList};
+use ht_outside::{Sink, SinkError};
+use report_views::{batch_length, batch_texts, events_head};
+use std::alloc::Global;
+use std::thread::Threads;
+use trace_types::{Merged, OutOfMemory};
+
+/// What a command writes.
+#[derive(Drop)]
+pub enum Output {
+    /// A text.
+    Text(Vec<u8>),
+    /// The list of these events, whose lines are made as they are written.
+    Events(MergedTrace),
+}
+
+/// Writes an output. After an error a front of its text may be written.
+pub fn write_output<K: Sink>(
+    threads: &(impl Threads + Sync),
+    alloc: Global,
+    output: &Output,
+    sink: &mut K,
+) -> Result<(), SinkError>
+    ensures written { OnOk result (Appends (K.contents sink.old) (K.contents sink.new) (output_text output.now)) }
+    ensures front { OnErr result (AppendsFront (K.contents sink.old) (K.contents sink.new) (output_text output.now)) }
+    ensures cause { IsCaused Failed result (K.faults sink.old) (K.faults sink.new) }
+{
+    match output {
+        Output::Text(text) => write_text(sink, text),
+        Output::Events(trace) => write_events(threads, alloc, trace, sink),
+    }
+}
+
+// Writes the list of events. No more than a batch of its lines is in memory.
+fn write_events<K: Sink>(
+    threads: &(impl Threads + Sync),
+    alloc: Global,
+    trace: &MergedTrace,
+    sink: &mut K,
+) -> Result<(), SinkError>
+    ensures written { OnOk result (Appends (K.contents sink.old) (K.contents sink.new) (lines_of (names_at trace.now.names.items) trace.now.events.items)) }
+    ensures front { OnErr result (AppendsFront (K.contents sink.old) (K.contents sink.new) (lines_of (names_at trace.now.names.items) trace.now.events.items)) }
+    ensures cause { IsCaused Failed result (K.faults sink.old) (K.faults sink.new) }
+{
+    write_text(sink, events_head())?;
+    write_batches(threads, alloc, &trace.names, &trace.events, sink)
+}
+
+// Writes the lines of events, batch by batch.
+fn write_batches<K: Sink>(
+    threads: &(impl Threads + Sync),
+    alloc: Global,
+    names: &[NameList],
+    events: &[Merged],
+    sink: &mut K,
+) -> Result<(), SinkError>
+    ensures written { OnOk result (Appends (K.contents sink.old) (K.contents sink.new) (event_lines (names_at names.now) events.now)) }
+    ensures front { OnErr result (AppendsFront (K.contents sink.old) (K.contents sink.new) (event_lines (names_at names.now) events.now)) }
+    ensures cause { IsCaused Failed result (K.faults sink.old) (K.faults sink.new) }
+{
+    let mut rest = events;
+    while !rest.is_empty() {
+        let (batch, after) = rest.split_at(batch_length(names, rest));
+        write_batch(threads, alloc, names, batch, sink)?;
+        rest = after;
+    }
+    Ok(())
+}
+
+// Writes the lines of a batch. They are all made before the first is written.
+fn write_batch<K: Sink>(
+    threads: &(impl Threads + Sync),
+    alloc: Global,
+    names: &[NameList],
+    events: &[Merged],
+    sink: &mut K,
+) -> Result<(), SinkError>
+    ensures written { OnOk result (Appends (K.contents sink.old) (K.contents sink.new) (event_lines (names_at names.now) events.now)) }
+    ensures front { OnErr result (AppendsFront (K.contents sink.old) (K.contents sink.new) (event_lines (names_at names.now) events.now)) }
+    ensures cause { IsCaused Failed result (K.faults sink.old) (K.faults sink.new) }
+{
+    match batch_texts(threads, alloc, names, events) {
+        Ok(texts) => write_texts(&texts, sink),
+        Err(OutOfMemory) => Err(SinkError::OutOfMemory),
+    }
+}
+
+// Writes texts, one after the other.
+fn write_texts<K: Sink>(texts: &[Vec<u8>], sink: &mut K) -> Result<(), SinkError>
+    ensures written { OnOk result (Appends (K.contents sink.old) (K.contents sink.new) (flat_map (λ text. text.items) texts.now)) }
+    ensures front { OnErr result (AppendsFront (K.contents sink.old) (K.contents sink.new) (flat_map (λ text. text.items) texts.now)) }
+    ensures cause { IsCaused Failed result (K.faults sink.old) (K.faults sink.new) }
+{
+    for text in texts {
+        write_text(sink, text)?;
+    }
+    Ok(())
+}
