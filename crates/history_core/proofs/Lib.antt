@@ -1,7 +1,6 @@
 pub mod Pushed
 pub mod Times
 pub mod Closing
-pub mod Entries
 pub mod Keeping
 pub mod Standing
 pub mod Answering

@@ -1,29 +1,30 @@
 -- A history stands for the steps that it took.
 use Rattle.std.specs.Prelude.{◌≡◌, ◌↔◌, ℕ, ◌<◌, List, [], ◌∷◌, ◌++◌, length, Option, Some}
-use Rattle.std.specs.Ordering.{nat_cmp}
-use Rattle.std.specs.Cmp.Lexicographic.{slice_cmp}
-use Rattle.std.specs.FinMap.{FinMap, get}
+use Rattle.std.specs.FinMap.{get}
 use Rattle.trace_types.specs.declared.path.Path.{Path as AttributePath}
 use Rattle.trace_types.specs.declared.value.Value.{Value}
 use Rattle.attribute_tree.specs.Numbered.{IsNew}
 use Rattle.kernel_provider.specs.declared.step.Step.{Step}
 use Rattle.kernel_provider.specs.declared.step.Step.TheVariants.{Advance, Add, Change, Finish}
+use Rattle.history_tree.specs.Records.{Content, content_of}
+use Rattle.history_tree.specs.Tree.{NodeTree}
 use Rattle.history_core.specs.declared.closed.Since.{Since}
-use Rattle.history_core.specs.declared.closed.Interval.{Interval}
 use Rattle.history_core.specs.Changes.{END, paths_of, built_from, built_of, changes_of, last_of}
 use Rattle.history_core.specs.Closed.{IsClosed}
-use Rattle.history_core.specs.Intervals.{map_of, open_at}
+use Rattle.history_core.specs.Intervals.{open_at}
 
--- what contracts see of a history
+-- what contracts see of a history; its closed intervals are those of its tree
 pub record HistoryModel : Type 0 where
   pub paths : List AttributePath
-  pub closed : FinMap (slice_cmp nat_cmp) (ℕ × Value)
+  pub closed : Content
   pub opened : List (Option Since)
   pub count : ℕ
   pub built : ℕ
+  pub tree : NodeTree
 
-abbrev pub kept_of : List AttributePath → List Interval → List (Option Since) → ℕ → ℕ → HistoryModel
-kept_of paths closed opened count built = record { paths = paths; closed = map_of closed; opened = opened; count = count; built = built }
+-- a history of these parts
+abbrev pub kept_of : List AttributePath → NodeTree → List (Option Since) → ℕ → ℕ → HistoryModel
+kept_of paths tree opened count built = record { paths = paths; closed = content_of tree.nodes; opened = opened; count = count; built = built; tree = tree }
 
 -- a step that can come where these paths were added and the history is built to this end
 abbrev pub CanCome : List AttributePath → ℕ → Step → Type 0

@@ -1,30 +1,12 @@
-//! Intervals of values, and the changes that close them.
-ghost use Rattle.std.specs.Prelude.{◌≡◌, ◌<◌, ◌++◌, Some, length, slice_set, OnOk, OnErr};
-ghost use Rattle.history_core.specs.Intervals.{closing, open_at, value_held, holds};
-ghost use Rattle.history_core.specs.declared.closed.Since.{Since};
+//! What a change closes and opens, and the values of closed intervals.
+ghost use Rattle.std.specs.Prelude.{◌≡◌, ◌<◌, ℕ, Some, length, slice_set, OnOk, OnErr};
+ghost use Rattle.trace_types.specs.declared.limits.TheConstants.{TIME_END};
+ghost use Rattle.history_tree.specs.Records.{content_of};
+ghost use Rattle.history_core.specs.Intervals.{closes, closing, open_at, EndBefore, IsClosing, IsHeldValue, IsTreeAfter};
 
+use history_nodes::{Interval, Reads};
+use history_tree::Tree;
 use trace_types::{OutOfMemory, Value};
-
-/// A value that an attribute had from one instant to another, both included, in ns.
-#[derive(Clone, Copy, Debug, PartialEq, Eq)]
-pub struct Interval {
-    pub number: usize,
-    pub start: u64,
-    pub end: u64,
-    pub value: Value,
-}
-
-impl Interval {
-    ghost use Rattle.std.specs.Prelude.{◌≡◌};
-    ghost use Rattle.history_core.specs.Intervals.{holds};
-
-    // Whether it is of this number and holds the instant.
-    fn holds(&self, number: usize, t: u64) -> bool
-        ensures { result ≡ holds number t self.now }
-    {
-        self.number == number && self.start <= t && t <= self.end
-    }
-}
 
 /// A value that an attribute has since an instant, in ns.
 #[derive(Clone, Copy, Debug, PartialEq, Eq)]
@@ -33,56 +15,75 @@ pub struct Since {
     pub value: Value,
 }
 
+impl Since {
+    // Whether a change at t closes it: unless it is empty or has no value.
+    fn closes(&self, t: u64) -> bool
+        ensures { result ≡ closes t self.now }
+    {
+        self.start < t && self.value != Value::Null
+    }
+
+    // The interval of a number that is closed by a change at t.
+    fn until(&self, number: usize, t: u64) -> Interval
+        requires early { self.now.start < t }
+        requires within { t < TIME_END }
+        ensures { IsClosing number t self.now result }
+    {
+        Interval {
+            number,
+            start: self.start,
+            end: t - 1,
+            value: self.value,
+        }
+    }
+}
+
 /// Gives a number another value from t on, and closes the interval of the value before, unless it
 /// is empty or has no value. When memory runs out, nothing has changed.
 pub fn change(
-    closed: &mut Vec<Interval>,
+    tree: &mut Tree,
     opened: &mut [Option<Since>],
     number: usize,
     since: &Since,
 ) -> Result<(), OutOfMemory>
-    requires { number < length opened.old }
-    ensures closed { OnOk result (closed.new.items ≡ closed.old.items ++ closing number since.now.start (open_at opened.old number)) }
+    requires number { number < length opened.old }
+    requires within { since.now.start < TIME_END }
+    requires older { EndBefore (content_of tree.old.nodes) number (open_at opened.old number) }
+    ensures closed { OnOk result (content_of tree.new.nodes ≡ closing (content_of tree.old.nodes) number since.now.start (open_at opened.old number)) }
+    ensures placed { OnOk result (IsTreeAfter tree.old number since.now.start (open_at opened.old number) tree.new) }
     ensures opened { OnOk result (opened.new ≡ slice_set opened.old number (Some since.now)) }
-    ensures err { OnErr result ((closed.new.items ≡ closed.old.items) × (opened.new ≡ opened.old)) }
+    ensures err { OnErr result ((tree.new ≡ tree.old) × (opened.new ≡ opened.old)) }
 {
-    close(closed, number, since.start, &opened[number])?;
+    close(tree, number, since.start, &opened[number])?;
     opened[number] = Some(*since);
     Ok(())
 }
 
-// Appends the interval that a change at t closes, if it closes one.
-fn close(
-    closed: &mut Vec<Interval>,
-    number: usize,
-    t: u64,
-    before: &Option<Since>,
-) -> Result<(), OutOfMemory>
-    ensures ok { OnOk result (closed.new.items ≡ closed.old.items ++ closing number t before.now) }
-    ensures err { OnErr result (closed.new.items ≡ closed.old.items) }
+// Stores the interval that a change at t closes, if it closes one.
+fn close(tree: &mut Tree, number: usize, t: u64, before: &Option<Since>) -> Result<(), OutOfMemory>
+    requires within { t < TIME_END }
+    requires older { EndBefore (content_of tree.old.nodes) number before.now }
+    ensures closed { OnOk result (content_of tree.new.nodes ≡ closing (content_of tree.old.nodes) number t before.now) }
+    ensures placed { OnOk result (IsTreeAfter tree.old number t before.now tree.new) }
+    ensures err { OnErr result (tree.new ≡ tree.old) }
 {
-    match *before {
-        Some(Since { start, value }) if start < t && value != Value::Null => {
-            closed.push(Interval {
-                number,
-                start,
-                end: t - 1,
-                value,
-            })?;
-        }
-        _ => {}
+    let Some(since) = before else {
+        return Ok(());
+    };
+    if !since.closes(t) {
+        return Ok(());
     }
-    Ok(())
+    tree.insert(since.until(number, t))
 }
 
 /// The value of a number at an instant, among closed intervals.
-pub fn value_held(closed: &[Interval], number: usize, t: u64) -> Value
-    ensures { result ≡ value_held closed.now number t }
+pub fn value_held(tree: &Tree, number: usize, t: u64) -> Value
+    requires { t < TIME_END }
+    ensures { IsHeldValue (content_of tree.now.nodes) number t result }
 {
-    for interval in closed {
-        if interval.holds(number, t) {
-            return interval.value;
-        }
+    let _levels = tree.levels();
+    match tree.find(number, t, &mut Reads::new()) {
+        Some(interval) => interval.value,
+        None => Value::Null,
     }
-    Value::Null
 }

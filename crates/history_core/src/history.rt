@@ -3,25 +3,29 @@ ghost use Rattle.std.specs.Prelude.{◌≡◌, ◌<◌, ◌≤◌, ◌-◌, ◌^
 ghost use Rattle.kernel_provider.specs.declared.step.Step.{Step};
 ghost use Rattle.history_core.specs.Stands.{Stands, CanFollow};
 ghost use Rattle.history_core.specs.Answers.{answer_after};
-ghost use Rattle.history_core.specs.Intervals.{parts_of, taken, value_in};
+ghost use Rattle.history_nodes.specs.Nodes.{opened as new_node};
+ghost use Rattle.history_tree.specs.Records.{content_of};
+ghost use Rattle.history_tree.specs.Tree.{tree_of};
+ghost use Rattle.history_core.specs.Intervals.{parts_of, taken, AreKept, IsTreeAfterStep, IsValueIn};
 ghost use Rattle.history_core.specs.declared.question.Answer.TheVariants.{State, NotYet};
 ghost use Rattle.trace_types.specs.declared.value.Value.{Value};
 
-use crate::closed::{Interval, Since, change, value_held};
+use crate::closed::{Since, change, value_held};
 use crate::question::Answer;
 use attribute_tree::Attributes;
+use history_tree::Tree;
 use kernel_provider::Step;
 use std::alloc::Global;
 use std::marker::Model;
 use trace_types::{OutOfMemory, Path, TIME_END, Value};
 
 /// The values of attributes up to a built end. Contracts see the paths, the closed intervals as a
-/// map from number and start to end and value, the open intervals by number, the number of steps
-/// and the built end, in ns.
+/// map from number and start to end and value, the open intervals by number, the number of steps,
+/// the built end, in ns, and the tree whose content the closed intervals are.
 #[derive(Debug, Drop)]
 pub struct History {
     attributes: Attributes,
-    closed: Vec<Interval>,
+    tree: Tree,
     opened: Vec<Option<Since>>,
     count: u64,
     built: u64,
@@ -29,6 +33,7 @@ pub struct History {
 
 impl Model for History {
     ghost use Rattle.history_core.specs.Stands.{HistoryModel, kept_of};
+    ghost use Rattle.history_tree.specs.Records.{content_of};
     ghost use Rattle.history_core.specs.Intervals.{AreKept};
     ghost use Rattle.history_core.specs.Codes.{kept_code};
 
@@ -36,19 +41,20 @@ impl Model for History {
 
     ghost coded = { kept_code };
 
-    ghost view = { λ h. kept_of h.attributes.paths h.closed.items h.opened.items h.count h.built };
+    ghost view = { λ h. kept_of h.attributes.paths h.tree h.opened.items h.count h.built };
 
-    ghost invariant = { λ h. AreKept h.attributes.paths h.closed.items h.opened.items h.built };
+    ghost invariant = { λ h. AreKept h.attributes.paths (content_of h.tree.nodes) h.opened.items h.built };
 }
 
 impl History {
     /// A history of no step. The only error is lack of memory.
     pub fn new(alloc: Global) -> Result<History, OutOfMemory>
-        ensures { IfOk result (λ history. Stands [] history) }
+        ensures stands { IfOk result (λ history. Stands [] history) }
+        ensures tree { IfOk result (λ history. history.tree ≡ tree_of (new_node 0 0 ∷ []) 0 0 0) }
     {
         Ok(History {
             attributes: Attributes::new(alloc),
-            closed: Vec::new(alloc),
+            tree: Tree::new(alloc)?,
             opened: Vec::new(alloc),
             count: 0,
             built: 0,
@@ -61,11 +67,12 @@ impl History {
         requires follows { CanFollow self.old.paths self.old.built step }
         requires few { self.old.count < 2 ^ 64 - 1 }
         ensures stands { OnOk result ((steps : List Step) → Stands steps self.old → Stands (steps ++ step ∷ []) self.new) }
+        ensures tree { OnOk result (IsTreeAfterStep self.old.tree self.old.opened step self.new.tree) }
         ensures err { OnErr result (self.new ≡ self.old) }
     {
         take(
             &mut self.attributes,
-            &mut self.closed,
+            &mut self.tree,
             &mut self.opened,
             &mut self.built,
             &step,
@@ -86,7 +93,7 @@ impl History {
         let Some(number) = self.attributes.find(path) else {
             return Answer::State(Value::Null);
         };
-        Answer::State(value_at(&self.closed, &self.opened, number, t))
+        Answer::State(value_at(&self.tree, &self.opened, number, t))
     }
 
     /// The number of steps that were taken.
@@ -102,20 +109,29 @@ impl History {
     {
         self.built
     }
+
+    /// The tree whose content the closed intervals are.
+    pub fn tree(&self) -> &Tree
+        ensures tree { result.now ≡ self.now.tree }
+        ensures content { content_of result.now.nodes ≡ self.now.closed }
+    {
+        &self.tree
+    }
 }
 
 // Takes a step, or leaves all as it is when memory runs out.
 fn take(
     attributes: &mut Attributes,
-    closed: &mut Vec<Interval>,
+    tree: &mut Tree,
     opened: &mut Vec<Option<Since>>,
     built: &mut u64,
     step: &Step,
 ) -> Result<(), OutOfMemory>
-    requires places { length opened.old.items ≡ length attributes.old.paths }
+    requires kept { AreKept attributes.old.paths (content_of tree.old.nodes) opened.old.items built.old }
     requires follows { CanFollow attributes.old.paths built.old step.now }
-    ensures ok { OnOk result (parts_of attributes.new.paths closed.new.items opened.new.items built.new ≡ taken (parts_of attributes.old.paths closed.old.items opened.old.items built.old) step.now) }
-    ensures err { OnErr result (parts_of attributes.new.paths closed.new.items opened.new.items built.new ≡ parts_of attributes.old.paths closed.old.items opened.old.items built.old) }
+    ensures ok { OnOk result (parts_of attributes.new.paths (content_of tree.new.nodes) opened.new.items built.new ≡ taken (parts_of attributes.old.paths (content_of tree.old.nodes) opened.old.items built.old) step.now) }
+    ensures tree { OnOk result (IsTreeAfterStep tree.old opened.old.items step.now tree.new) }
+    ensures err { OnErr result ((attributes.new.paths ≡ attributes.old.paths) × (tree.new ≡ tree.old) × (opened.new.items ≡ opened.old.items) × (built.new ≡ built.old)) }
 {
     match *step {
         Step::Advance(t) => *built = t,
@@ -126,7 +142,7 @@ fn take(
         }
         Step::Change { t, number, value } => {
             let since = Since { start: t, value };
-            return change(closed, opened, number, &since);
+            return change(tree, opened, number, &since);
         }
         Step::Finish => *built = TIME_END,
     }
@@ -134,13 +150,14 @@ fn take(
 }
 
 // The value of a number at an instant.
-fn value_at(closed: &[Interval], opened: &[Option<Since>], number: usize, t: u64) -> Value
-    requires { number < length opened.now }
-    ensures { result ≡ value_in closed.now opened.now number t }
+fn value_at(tree: &Tree, opened: &[Option<Since>], number: usize, t: u64) -> Value
+    requires number { number < length opened.now }
+    requires time { t < TIME_END }
+    ensures { IsValueIn (content_of tree.now.nodes) opened.now number t result }
 {
     match &opened[number] {
         Some(since) if since.start <= t => since.value,
-        _ => value_held(closed, number, t),
+        _ => value_held(tree, number, t),
     }
 }
 
@@ -148,6 +165,7 @@ fn value_at(closed: &[Interval], opened: &[Option<Since>], number: usize, t: u64
 mod tests {
     use super::*;
     use crate::whole::history_of;
+    use history_nodes::{Interval, Reads};
     use std::test::Fail;
     use trace_types::{Comm, Event, KernelEvent, Merged, read_comm};
 
@@ -174,6 +192,14 @@ mod tests {
         }
     }
 
+    // The stored interval of a number that holds an instant.
+    fn held(history: &History, number: usize, t: u64) -> Option<Interval>
+        requires { t < TIME_END }
+    {
+        let _levels = history.tree.levels();
+        history.tree.find(number, t, &mut Reads::new())
+    }
+
     // Numbers 0, 3 and 7 are the status of the idle thread, that of bash, and the processor's thread.
     #[test]
     fn a_change_closes_the_interval_before(rt: HostRuntime) -> Result<(), Fail> {
@@ -182,17 +208,17 @@ mod tests {
         };
         let there = switch(100, (0, 0, idle), (7, bash));
         let back = switch(250, (7, 1, bash), (0, idle));
-        let intervals = history_of(rt.alloc(), &[there, back])?.closed;
+        let history = history_of(rt.alloc(), &[there, back])?;
         let interval = |number, value| Interval {
             number,
             start: 100,
             end: 249,
             value: Value::Int(value),
         };
-        assert_eq!(rt; intervals.len(), 3);
-        assert_eq!(rt; intervals[0], interval(3, 1));
-        assert_eq!(rt; intervals[1], interval(0, 2));
-        assert_eq!(rt; intervals[2], interval(7, 7));
+        assert!(rt; held(&history, 3, 249) == Some(interval(3, 1)));
+        assert!(rt; held(&history, 0, 100) == Some(interval(0, 2)));
+        assert!(rt; held(&history, 7, 150) == Some(interval(7, 7)));
+        assert!(rt; held(&history, 7, 250).is_none());
         Ok(())
     }
 
@@ -203,7 +229,30 @@ mod tests {
         };
         let there = switch(100, (0, 0, idle), (7, bash));
         let further = switch(100, (7, 1, bash), (8, idle));
-        assert!(rt; history_of(rt.alloc(), &[there, further])?.closed.is_empty());
+        let history = history_of(rt.alloc(), &[there, further])?;
+        assert!(rt; held(&history, 7, 100).is_none());
+        assert!(rt; held(&history, 7, 99).is_none());
+        Ok(())
+    }
+
+    // There is no second list of intervals beside the tree.
+    #[test]
+    fn a_history_is_its_tree_and_what_is_open(rt: HostRuntime) -> Result<(), Fail> {
+        let History {
+            attributes,
+            tree,
+            opened,
+            count,
+            built,
+        } = History::new(rt.alloc())?;
+        let attributes: Attributes = attributes;
+        let tree: Tree = tree;
+        let opened: Vec<Option<Since>> = opened;
+        let numbers: (u64, u64) = (count, built);
+        assert!(rt; attributes.is_empty());
+        assert_eq!(rt; tree.levels(), 1);
+        assert!(rt; opened.is_empty());
+        assert_eq!(rt; numbers, (0, 0));
         Ok(())
     }
 }

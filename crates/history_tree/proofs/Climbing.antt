@@ -1,7 +1,7 @@
 -- Searches up a branch, and what keeps shortcuts.
 use Rattle.std.proofs.Common.{◌≡◌, ◌≢◌, ℕ, ◌<◌, ◌≤◌, Bool, true, false, ◌&&◌, nat_lt, nat_le, List, [], ◌∷◌, ◌++◌, length, Option, None, Some, refl, sym, ap, ◌∙◌, subst, arith, set, length-set}
 use Rattle.std.specs.List.{AllByRecursion}
-use Rattle.std.proofs.lemmas.Bool.{ltb-false}
+use Rattle.std.proofs.lemmas.Bool.{ltb-false, leb-true}
 use Rattle.history_nodes.specs.declared.interval.Interval.{Interval}
 use Rattle.history_nodes.specs.declared.node.Node.{Node}
 use Rattle.history_nodes.specs.declared.children.TheConstants.{MAX_CHILDREN}
@@ -10,6 +10,7 @@ use Rattle.history_nodes.specs.Nodes.{node_at, with_record}
 use Rattle.history_tree.specs.Placement.{LeadUp, IsFirst, has_room, has_rooms, takes}
 use Rattle.history_tree.specs.Climbing.{AreClimbed}
 use Rattle.history_tree.specs.Shortcuts.{LeadsPast, IsShortcut, AreShortcuts, shortcut_of}
+use Rattle.history_tree.specs.Earlier.{IsLate, LeadsPastLate, AreEarlier, PassesBy, earlier_of}
 use Rattle.history_tree.proofs.Steps.{at_other}
 use Rattle.history_tree.proofs.Climbs.{height, height_falls, same_some, lead_begins}
 use Rattle.history_tree.proofs.Shortening.{lead_join, all_join}
@@ -82,11 +83,56 @@ climbing_falls nodes next above number free c is past is_above =
     let same : height nodes next ≡ height nodes (Some number) = ap (height nodes) is in
     omega (arith, falls, few, same, past.level)
 
+-- ---- past nodes that began too late
+late_takes : (x : Node) (start : ℕ) → start < x.start → takes start x ≡ false
+late_takes x start lt = by (nat_le x.start start) refl
+  where
+    by : (b : Bool) → nat_le x.start start ≡ b → (b && has_room x) ≡ false
+    by true e = absurd (omega (arith, lt, leb-true x.start start e))
+    by false e = refl
+
+fail_late : (nodes : List Node) (start low : ℕ) (ns : List ℕ) → start < low → AllByRecursion (IsLate nodes low) ns → AllByRecursion (λ n. takes start (node_at nodes n) ≡ false) ns
+fail_late nodes start low [] lt h = tt
+fail_late nodes start low (n ∷ ns) lt h = (late_takes (node_at nodes n) start (omega (arith, lt, h.0.late)), fail_late nodes start low ns lt h.1)
+
+pub by_late : (nodes : List Node) (n : ℕ) (next : Option ℕ) (start : ℕ) → start < (node_at nodes n).start → LeadsPastLate nodes n next → PassesBy nodes start n next
+by_late nodes n next start lt l = record { passed = l.passed; up = l.up; fail = fail_late nodes start (node_at nodes n).start l.passed lt l.late; there = l.there; higher = l.higher }
+
+pub by_one : (nodes : List Node) (n : ℕ) (next : Option ℕ) (start : ℕ) → AreClimbed nodes → n < length nodes → next ≡ (node_at nodes n).parent → takes start (node_at nodes n) ≡ false → PassesBy nodes start n next
+by_one nodes n next start c there is fails = record {
+  passed = n ∷ [];
+  up = (refl, sym is);
+  fail = (fails, tt);
+  there = λ p e. (c.parents n p there (sym is ∙ e)).there;
+  higher = λ p e. let a = c.parents n p there (sym is ∙ e) in omega (arith, a.level);
+}
+
+pub climbing_by : (nodes : List Node) (from above : Option ℕ) (start free : ℕ) (shortcuts : List ℕ) → IsClimbing (takes start) nodes from (Some free) shortcuts → PassesBy nodes start free above → IsClimbing (takes start) nodes from above shortcuts
+climbing_by nodes from above start free shortcuts c p = record {
+  passed = c.passed ++ p.passed;
+  up = lead_join nodes from c.passed p.passed (Some free) above c.up p.up;
+  fail = all_join (λ n. takes start (node_at nodes n) ≡ false) c.passed p.passed c.fail p.fail;
+  there = p.there;
+  shortcuts_hold = c.shortcuts_hold;
+}
+
+pub by_falls : (nodes : List Node) (next above : Option ℕ) (number free start : ℕ) → AreClimbed nodes → next ≡ Some number → LeadsPast nodes number free → PassesBy nodes start free above → height nodes above < height nodes next
+by_falls nodes next None number free start c is past p =
+    let few = c.few number past.begins in
+    let same : height nodes next ≡ height nodes (Some number) = ap (height nodes) is in
+    omega (arith, few, same)
+by_falls nodes next (Some k) number free start c is past p =
+    let few = c.few number past.begins in
+    let same : height nodes next ≡ height nodes (Some number) = ap (height nodes) is in
+    let higher = p.higher k refl in
+    omega (arith, few, same, past.level, higher)
+
 -- ---- shortcuts while nodes change
 pub record KeepsFull (old new : List Node) : Type 0 where
   pub len : length old ≤ length new
   pub full : (n : ℕ) → has_room (node_at old n) ≡ false → has_room (node_at new n) ≡ false
   pub level : (n : ℕ) → n < length old → (node_at new n).level ≡ (node_at old n).level
+  pub start : (n : ℕ) → n < length old → (node_at new n).start ≡ (node_at old n).start
   pub parent : (n p : ℕ) → n < length old → (node_at old n).parent ≡ Some p → (node_at new n).parent ≡ Some p
 
 keeps_full : (old new : List Node) → Keeps old new → KeepsFull old new
@@ -94,6 +140,7 @@ keeps_full old new k = record {
   len = k.len;
   full = λ n e. ap (λ (is : List Interval). nat_lt (length is) MAX_RECORDS) (k.records n) ∙ e;
   level = k.level;
+  start = k.start;
   parent = k.parent;
 }
 
@@ -102,6 +149,7 @@ put_keeps_full nodes k i room = record {
   len = omega (arith, length-set nodes k x);
   full = λ n e. ap has_room (at_other nodes k n x (differs n e)) ∙ e;
   level = λ n there. kept_set (λ (y : Node). y.level) nodes k x refl n;
+  start = λ n there. kept_set (λ (y : Node). y.start) nodes k x refl n;
   parent = λ n p there e. kept_set (λ (y : Node). y.parent) nodes k x refl n ∙ e;
 }
   where
@@ -149,3 +197,27 @@ shortcuts_kept old new shortcuts k c h = full_shortcuts old new shortcuts (keeps
 
 pub shortcuts_put : (nodes : List Node) (n : ℕ) (i : Interval) (shortcuts : List ℕ) → has_room (node_at nodes n) ≡ true → AreClimbed nodes → AreShortcuts nodes shortcuts → AreShortcuts (set nodes n (with_record i (node_at nodes n))) shortcuts
 shortcuts_put nodes n i shortcuts room c h = full_shortcuts nodes (set nodes n (with_record i (node_at nodes n))) shortcuts (put_keeps_full nodes n i room) c h
+
+-- ---- what is known of earlier nodes, while nodes change
+late_kept : (old new : List Node) (start : ℕ) (ns : List ℕ) → KeepsFull old new → AllByRecursion (IsLate old start) ns → AllByRecursion (IsLate new start) ns
+late_kept old new start [] k h = tt
+late_kept old new start (n ∷ ns) k h = (record { there = omega (arith, k.len, h.0.there); late = let s = k.start n h.0.there in omega (arith, s, h.0.late) }, late_kept old new start ns k h.1)
+
+full_earlier : (old new : List Node) (numbers : List ℕ) → KeepsFull old new → AreClimbed old → AreEarlier old numbers → AreEarlier new numbers
+full_earlier old new numbers k c h = record { few = omega (arith, k.len, h.few); each = λ n ne. kept n (earlier_of numbers n) (h.each n ne) }
+  where
+    kept : (low high : ℕ) → LeadsPastLate old low (Some high) → LeadsPastLate new low (Some high)
+    kept low high l = record {
+      begins = omega (arith, k.len, l.begins);
+      passed = l.passed;
+      up = lead_kept l.passed old new low high k c l.begins l.up;
+      late = subst (λ s. AllByRecursion (IsLate new s) l.passed) (sym (k.start low l.begins)) (late_kept old new (node_at old low).start l.passed k l.late);
+      there = λ n e. let t = l.there n e in omega (arith, k.len, t);
+      higher = λ n e. let a = k.level low l.begins in let b = k.level n (l.there n e) in let g = l.higher n e in omega (arith, a, b, g);
+    }
+
+pub earlier_kept : (old new : List Node) (numbers : List ℕ) → Keeps old new → AreClimbed old → AreEarlier old numbers → AreEarlier new numbers
+earlier_kept old new numbers k c h = full_earlier old new numbers (keeps_full old new k) c h
+
+pub earlier_put : (nodes : List Node) (n : ℕ) (i : Interval) (numbers : List ℕ) → has_room (node_at nodes n) ≡ true → AreClimbed nodes → AreEarlier nodes numbers → AreEarlier (set nodes n (with_record i (node_at nodes n))) numbers
+earlier_put nodes n i numbers room c h = full_earlier nodes (set nodes n (with_record i (node_at nodes n))) numbers (put_keeps_full nodes n i room) c h

@@ -1,5 +1,5 @@
 -- Intervals as a map.
-use Rattle.std.proofs.Common.{◌≡◌, ◌≢◌, ◌⊎◌, inl, inr, ℕ, Bool, true, false, cond, List, [], ◌∷◌, ◌++◌, map, get_or, Some, refl, sym, ap, ◌∙◌, subst, arith}
+use Rattle.std.proofs.Common.{◌≡◌, ◌≢◌, ◌⊎◌, inl, inr, ℕ, zero, suc, Bool, true, false, cond, List, [], ◌∷◌, ◌++◌, Contains, map, get_or, Some, refl, sym, ap, ◌∙◌, subst, arith}
 use Rattle.std.specs.List.{AllByRecursion}
 use Rattle.std.specs.Prelude.{unwrap_or}
 use Rattle.std.specs.declared.cmp.Ordering.{Ordering}
@@ -10,8 +10,26 @@ use Rattle.std.specs.FinMap.{get, find, get-from_entries, get-insert, same_map, 
 use Rattle.std.proofs.lemmas.Cmp.{tied_itself}
 use Rattle.trace_types.specs.declared.value.Value.{Value}
 use Rattle.history_nodes.specs.declared.interval.Interval.{Interval}
-use Rattle.history_tree.specs.Records.{IsMember, IsAt, key_of, entry_of, map_of, with_interval, IsApart, AreApart, IsFree}
+use Rattle.history_tree.specs.Records.{IsAt, key_of, entry_of, map_of, with_interval, IsApart, AreApart, IsFree}
 use Rattle.history_tree.proofs.Stored.{IsBetween}
+
+-- the interval is one of these
+abbrev pub IsMember : Interval → List Interval → Type 0
+IsMember i [] = ⊥
+IsMember i (j ∷ js) = (j ≡ i) ⊎ IsMember i js
+
+pub contains_behind : {A : Type 0} (xs : List A) (x y : A) → Contains xs y → Contains (x ∷ xs) y
+contains_behind xs x y (k, lt, at) = (suc k, omega arith, at)
+
+pub contained : (i : Interval) (xs : List Interval) → IsMember i xs → Contains xs i
+contained i [] m = absurd m
+contained i (x ∷ xs) (inl e) = (0, omega arith, e)
+contained i (x ∷ xs) (inr m) = contains_behind xs x i (contained i xs m)
+
+pub member_in : (i : Interval) (xs : List Interval) → Contains xs i → IsMember i xs
+member_in i [] (k, lt, at) = absurd (omega (arith, lt))
+member_in i (x ∷ xs) (zero, lt, at) = inl at
+member_in i (x ∷ xs) (suc k, lt, at) = inr (member_in i xs (k, omega (arith, lt), at))
 
 pub member_has : (P : Interval → Type 0) (xs : List Interval) (i : Interval) → AllByRecursion P xs → IsMember i xs → P i
 member_has P [] i h m = absurd m

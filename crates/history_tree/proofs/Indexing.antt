@@ -3,6 +3,7 @@ use Rattle.std.proofs.Common.{◌≡◌, ◌⊎◌, inl, inr, ℕ, zero, suc, �
 use Rattle.std.specs.List.Sorted.{IsPermutation}
 use Rattle.std.specs.FinMap.{get}
 use Rattle.std.proofs.lemmas.Bool.{cases_eq}
+use Rattle.std.proofs.lemmas.List.Elements.{Contains-append_left, Contains-append_right, Contains-append_cases}
 use Rattle.std.proofs.lemmas.List.Sorted.{IsPermutation-sym, Contains-permutation}
 use Rattle.trace_types.specs.declared.value.Value.{Value}
 use Rattle.history_nodes.specs.declared.interval.Interval.{Interval}
@@ -11,11 +12,11 @@ use Rattle.history_nodes.specs.Intervals.{is_of}
 use Rattle.history_nodes.specs.Nodes.{node_at, with_record}
 use Rattle.history_tree.specs.declared.places.Place.{Place}
 use Rattle.history_tree.specs.Places.{PlaceList, places_of, place_of, HaveSame, OthersHaveSame, IsLatest}
-use Rattle.history_tree.specs.Records.{records_of, content_of, IsMember, IsAt}
+use Rattle.history_tree.specs.Records.{records_of, content_of, IsAt}
 use Rattle.history_tree.specs.Tree.{NodeTree, IsTree}
 use Rattle.history_tree.specs.Index.{IsHeldAt, AreIndexed}
 use Rattle.history_tree.proofs.Steps.{at_set, at_other}
-use Rattle.history_tree.proofs.Contents.{member_left, member_right, member_split, apart_same, get_found, key_number, key_start}
+use Rattle.history_tree.proofs.Contents.{IsMember, contains_behind, contained, member_in, apart_same, get_found, key_number, key_start}
 use Rattle.history_tree.proofs.Seeking.{member_node, node_member, none_in}
 
 -- a node that holds an interval is there
@@ -29,23 +30,23 @@ pub index_kept : (old new : List Node) (rows next : List PlaceList) → ((n : �
 index_kept old new rows next records same h = record {
   held = λ number place c. let k = h.held number place (subst (λ ps. Contains ps place) (same.each number) c) in record {
     interval = k.interval;
-    member = subst (IsMember k.interval) (sym (records place.node)) k.member;
+    member = subst (λ is. Contains is k.interval) (sym (records place.node)) k.member;
     of = k.of;
     start = k.start;
   };
-  listed = λ n i m. subst (λ ps. Contains ps (place_of i n)) (sym (same.each i.number)) (h.listed n i (subst (IsMember i) (records n) m));
+  listed = λ n i m. subst (λ ps. Contains ps (place_of i n)) (sym (same.each i.number)) (h.listed n i (subst (λ is. Contains is i) (records n) m));
 }
 
 -- ---- one more record
-contains_here : (ps : List Place) (p : Place) → Contains (p ∷ ps) p
-contains_here ps p = (0, omega arith, refl)
+contains_here : {A : Type 0} (xs : List A) (x : A) → Contains (x ∷ xs) x
+contains_here xs x = (0, omega arith, refl)
 
-contains_behind : (ps : List Place) (p q : Place) → Contains ps q → Contains (p ∷ ps) q
-contains_behind ps p q (k, lt, at) = (suc k, omega arith, at)
+contains_cases : {A : Type 0} (xs : List A) (x y : A) → Contains (x ∷ xs) y → (x ≡ y) ⊎ Contains xs y
+contains_cases xs x y (zero, lt, at) = inl at
+contains_cases xs x y (suc k, lt, at) = inr (k, omega arith, at)
 
-contains_cases : (ps : List Place) (p q : Place) → Contains (p ∷ ps) q → (p ≡ q) ⊎ Contains ps q
-contains_cases ps p q (zero, lt, at) = inl at
-contains_cases ps p q (suc k, lt, at) = inr (k, omega arith, at)
+contains_none : {A : Type 0} (y : A) → Contains [] y → ⊥
+contains_none y (k, lt, at) = omega (arith, lt)
 
 pub index_put : (nodes : List Node) (k : ℕ) (i : Interval) (rows next : List PlaceList) → k < length nodes → IsPermutation (place_of i k ∷ places_of i.number rows) (places_of i.number next) → OthersHaveSame i.number rows next → AreIndexed nodes rows → AreIndexed (set nodes k (with_record i (node_at nodes k))) next
 index_put nodes k i rows next there added others h = record {
@@ -60,12 +61,12 @@ index_put nodes k i rows next there added others h = record {
     new = set nodes k x
 
     -- records and places that were there
-    member_kept : (n : ℕ) (j : Interval) → IsMember j (node_at nodes n).intervals → IsMember j (node_at new n).intervals
+    member_kept : (n : ℕ) (j : Interval) → Contains (node_at nodes n).intervals j → Contains (node_at new n).intervals j
     member_kept n j m = by (cases_eq n k)
       where
-        by : (n ≡ k) ⊎ (n ≡ k → ⊥) → IsMember j (node_at new n).intervals
-        by (inl is) = subst (λ e. IsMember j (node_at new e).intervals) (sym is) (subst (λ (y : Node). IsMember j y.intervals) (sym (at_set nodes k x there)) (member_left j (node_at nodes k).intervals (i ∷ []) (subst (λ e. IsMember j (node_at nodes e).intervals) is m)))
-        by (inr ne) = subst (λ (y : Node). IsMember j y.intervals) (sym (at_other nodes k n x ne)) m
+        by : (n ≡ k) ⊎ (n ≡ k → ⊥) → Contains (node_at new n).intervals j
+        by (inl is) = subst (λ e. Contains (node_at new e).intervals j) (sym is) (subst (λ (y : Node). Contains y.intervals j) (sym (at_set nodes k x there)) (Contains-append_left (node_at nodes k).intervals (i ∷ []) j (subst (λ e. Contains (node_at nodes e).intervals j) is m)))
+        by (inr ne) = subst (λ (y : Node). Contains y.intervals j) (sym (at_other nodes k n x ne)) m
 
     place_kept : (number : ℕ) (p : Place) → Contains (places_of number rows) p → Contains (places_of number next) p
     place_kept number p c = by (cases_eq number i.number)
@@ -83,21 +84,24 @@ index_put nodes k i rows next there added others h = record {
         by : (place_of i k ≡ place) ⊎ Contains (places_of i.number rows) place → IsHeldAt new number place
         by (inl e) = subst (IsHeldAt new number) e (record {
           interval = i;
-          member = subst (λ (y : Node). IsMember i y.intervals) (sym (at_set nodes k x there)) (member_right i (node_at nodes k).intervals (i ∷ []) (inl refl));
+          member = subst (λ (y : Node). Contains y.intervals i) (sym (at_set nodes k x there)) (Contains-append_right (node_at nodes k).intervals (i ∷ []) i (contains_here [] i));
           of = sym is;
           start = refl;
         })
         by (inr d) = held_kept number place (h.held number place (subst (λ e. Contains (places_of e rows) place) (sym is) d))
     held number place c (inr ne) = held_kept number place (h.held number place (subst (λ ps. Contains ps place) (others.others number ne) c))
 
-    listed : (n : ℕ) (j : Interval) → IsMember j (node_at new n).intervals → (n ≡ k) ⊎ (n ≡ k → ⊥) → Contains (places_of j.number next) (place_of j n)
-    listed n j m (inl is) = by (member_split j (node_at nodes k).intervals (i ∷ []) (subst (λ (y : Node). IsMember j y.intervals) (at_set nodes k x there) (subst (λ e. IsMember j (node_at new e).intervals) is m)))
+    listed : (n : ℕ) (j : Interval) → Contains (node_at new n).intervals j → (n ≡ k) ⊎ (n ≡ k → ⊥) → Contains (places_of j.number next) (place_of j n)
+    listed n j m (inl is) = by (Contains-append_cases (node_at nodes k).intervals (i ∷ []) j (subst (λ (y : Node). Contains y.intervals j) (at_set nodes k x there) (subst (λ e. Contains (node_at new e).intervals j) is m)))
       where
-        by : IsMember j (node_at nodes k).intervals ⊎ ((i ≡ j) ⊎ ⊥) → Contains (places_of j.number next) (place_of j n)
-        by (inl a) = place_kept j.number (place_of j n) (h.listed n j (subst (λ e. IsMember j (node_at nodes e).intervals) (sym is) a))
-        by (inr (inl e)) = subst (λ (l : Interval). Contains (places_of l.number next) (place_of l n)) e (subst (λ e. Contains (places_of i.number next) (place_of i e)) (sym is) (Contains-permutation _ _ (place_of i k) added (contains_here (places_of i.number rows) (place_of i k))))
-        by (inr (inr e)) = absurd e
-    listed n j m (inr ne) = place_kept j.number (place_of j n) (h.listed n j (subst (λ (y : Node). IsMember j y.intervals) (at_other nodes k n x ne) m))
+        last : (i ≡ j) ⊎ Contains [] j → Contains (places_of j.number next) (place_of j n)
+        last (inl e) = subst (λ (l : Interval). Contains (places_of l.number next) (place_of l n)) e (subst (λ e. Contains (places_of i.number next) (place_of i e)) (sym is) (Contains-permutation _ _ (place_of i k) added (contains_here (places_of i.number rows) (place_of i k))))
+        last (inr e) = absurd (contains_none j e)
+
+        by : Contains (node_at nodes k).intervals j ⊎ Contains (i ∷ []) j → Contains (places_of j.number next) (place_of j n)
+        by (inl a) = place_kept j.number (place_of j n) (h.listed n j (subst (λ e. Contains (node_at nodes e).intervals j) (sym is) a))
+        by (inr c) = last (contains_cases [] i j c)
+    listed n j m (inr ne) = place_kept j.number (place_of j n) (h.listed n j (subst (λ (y : Node). Contains y.intervals j) (at_other nodes k n x ne) m))
 
 -- ---- what the index tells
 -- an interval of the content that holds an instant, and its place
@@ -122,7 +126,7 @@ is_listed t rows number time s e v h g le ge =
       member = f.member;
       of = sym number_is;
       at = record { begun = omega (arith, start_is, le); lasts = omega (arith, end_is, ge) };
-      place = subst (λ e. Contains (places_of e rows) (place_of f.interval n.number)) (sym number_is) (h.listed n.number f.interval n.member);
+      place = subst (λ e. Contains (places_of e rows) (place_of f.interval n.number)) (sym number_is) (h.listed n.number f.interval (contained f.interval (node_at t.nodes n.number).intervals n.member));
     }
 
 -- where no place begins by the instant
@@ -142,13 +146,14 @@ none_found t rows number time place None h x latest is = λ s e v g le ge.
     let late : l.interval.start ≤ place.start = latest.latest (place_of l.interval l.node) l.place l.at.begun in
     let start = k.start in
     let ordered = k.interval.ordered in
-    let same : l.interval ≡ k.interval = apart_same (records_of t.nodes) l.interval k.interval place.start h.filled.apart l.member (node_member t.nodes place.node k.interval (member_there t.nodes place.node k.interval k.member) k.member) (l.of ∙ sym k.of)
+    let member = member_in k.interval (node_at t.nodes place.node).intervals k.member in
+    let same : l.interval ≡ k.interval = apart_same (records_of t.nodes) l.interval k.interval place.start h.filled.apart l.member (node_member t.nodes place.node k.interval (member_there t.nodes place.node k.interval member) member) (l.of ∙ sym k.of)
     (record { begun = late; lasts = omega (arith, l.at.lasts, latest.begun) }) (record { begun = omega (arith, start); lasts = omega (arith, start, ordered) }) in
-    none_in (node_at t.nodes place.node).intervals number time k.interval is k.member k.of (subst (IsAt time) same l.at)
+    none_in (node_at t.nodes place.node).intervals number time k.interval is member k.of (subst (IsAt time) same l.at)
 
 -- the node of a place is there
 pub place_there : (nodes : List Node) (rows : List PlaceList) (number time : ℕ) (place : Place) → AreIndexed nodes rows → IsLatest (places_of number rows) time place → place.node < length nodes
-place_there nodes rows number time place h latest = let k = h.held number place latest.listed in member_there nodes place.node k.interval k.member
+place_there nodes rows number time place h latest = let k = h.held number place latest.listed in member_there nodes place.node k.interval (member_in k.interval (node_at nodes place.node).intervals k.member)
 
 pub at_none : {A : Type 0} (o : Option A) (P : Type 0) → P → IfNone o P
 at_none None P h = h

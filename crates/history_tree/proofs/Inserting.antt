@@ -13,9 +13,10 @@ use Rattle.history_tree.specs.Placement.{IsFirst, takes, tree_with, number_in, I
 use Rattle.history_tree.proofs.Trees.{IsGrown, grown_tree, tree_grown}
 use Rattle.history_tree.proofs.Keeping.{Keeps, keeps_both, keeps_with, keeps_ready}
 use Rattle.history_tree.specs.Shortcuts.{AreShortcuts, HaveSameShortcuts}
+use Rattle.history_tree.specs.Earlier.{AreEarlier}
 use Rattle.history_tree.proofs.Shortening.{shortcuts_same}
 use Rattle.history_tree.proofs.Indexing.{index_kept, index_put}
-use Rattle.history_tree.proofs.Climbing.{room_there, shortcuts_kept, shortcuts_put}
+use Rattle.history_tree.proofs.Climbing.{room_there, shortcuts_kept, shortcuts_put, earlier_kept, earlier_put}
 use Rattle.history_tree.proofs.Placing.{readied, CanTake, found_takes, placed_stored, tree_climbed, with_grown}
 
 pub grown_ready : (old ready : NodeTree) → IsTree old → IsReady old ready → IsGrown ready
@@ -40,9 +41,9 @@ pub tree_placed : (old new : NodeTree) (i : Interval) → IsTree old → IsFree 
 tree_placed old new i h free p = tree_grown new (placed_stored old new i (grown_tree old h) free p).grown
 
 -- where memory was taken and nothing else happened
-pub equipped_reserved : (t : NodeTree) (nodes : List Node) (rows reserved : List PlaceList) (shortcuts reached : List ℕ) → nodes ≡ t.nodes → HaveSame rows reserved → HaveSameShortcuts shortcuts reached → IsEquipped t rows shortcuts → IsEquipped (tree_of nodes t.root t.leaf t.greatest) reserved reached
-equipped_reserved t nodes rows reserved shortcuts reached is same same' h =
-    subst (λ (ns : List Node). IsEquipped (tree_of ns t.root t.leaf t.greatest) reserved reached) (sym is) (record { tree = h.tree; indexed = index_kept t.nodes t.nodes rows reserved (λ n. refl) same h.indexed; shortened = shortcuts_same t.nodes shortcuts reached same' h.shortened })
+pub equipped_reserved : (t : NodeTree) (nodes : List Node) (rows reserved : List PlaceList) (shortcuts reached numbers known : List ℕ) → nodes ≡ t.nodes → HaveSame rows reserved → HaveSameShortcuts shortcuts reached → AreEarlier t.nodes known → IsEquipped t rows shortcuts numbers → IsEquipped (tree_of nodes t.root t.leaf t.greatest) reserved reached known
+equipped_reserved t nodes rows reserved shortcuts reached numbers known is same same' more h =
+    subst (λ (ns : List Node). IsEquipped (tree_of ns t.root t.leaf t.greatest) reserved reached known) (sym is) (record { tree = h.tree; indexed = index_kept t.nodes t.nodes rows reserved (λ n. refl) same h.indexed; shortened = shortcuts_same t.nodes shortcuts reached same' h.shortened; earlier = more })
 
 -- what stays on the way to the node that takes the interval
 pub kept_until : (old t t1 : NodeTree) (found : Option ℕ) → IsTree old → IsReady old t → t1 ≡ tree_with found t → Keeps old.nodes t1.nodes
@@ -67,3 +68,15 @@ shortcuts_placed t t1 i found n new shortcuts g first is_t is_n is_new s =
     let kept : Keeps t.nodes t1.nodes = subst (λ (k : NodeTree). Keeps t.nodes k.nodes) (sym is_t) (keeps_with t found g) in
     let g1 : IsGrown t1 = subst IsGrown (sym is_t) (with_grown t found g) in
     subst (λ (ns : List Node). AreShortcuts ns shortcuts) (sym is_new) (shortcuts_put t1.nodes n i shortcuts (room_there (node_at t1.nodes n) k.room) (tree_climbed t1 g1) (shortcuts_kept t.nodes t1.nodes shortcuts kept (tree_climbed t g) s))
+
+-- what is known of earlier nodes
+pub earlier_ready : (old t : NodeTree) (numbers : List ℕ) → IsTree old → IsReady old t → AreEarlier old.nodes numbers → AreEarlier t.nodes numbers
+earlier_ready old t numbers h ready s = let g = grown_tree old h in earlier_kept old.nodes t.nodes numbers (keeps_ready old t g ready) (tree_climbed old g) s
+
+pub earlier_placed : (t t1 : NodeTree) (i : Interval) (found : Option ℕ) (n : ℕ) (new : List Node) (numbers : List ℕ) → IsGrown t → IsFirst (takes i.start) t.nodes (Some t.leaf) found → t1 ≡ tree_with found t → n ≡ number_in found t.nodes
+    → new ≡ set t1.nodes n (with_record i (node_at t1.nodes n)) → AreEarlier t.nodes numbers → AreEarlier new numbers
+earlier_placed t t1 i found n new numbers g first is_t is_n is_new s =
+    let k = taken_by t t1 i found n g first is_t is_n in
+    let kept : Keeps t.nodes t1.nodes = subst (λ (k : NodeTree). Keeps t.nodes k.nodes) (sym is_t) (keeps_with t found g) in
+    let g1 : IsGrown t1 = subst IsGrown (sym is_t) (with_grown t found g) in
+    subst (λ (ns : List Node). AreEarlier ns numbers) (sym is_new) (earlier_put t1.nodes n i numbers (room_there (node_at t1.nodes n) k.room) (tree_climbed t1 g1) (earlier_kept t.nodes t1.nodes numbers kept (tree_climbed t g) s))

@@ -7,21 +7,23 @@ use Rattle.history_tree.specs.Placement.{has_room, with_root_node, tree_with, al
 use Rattle.history_tree.proofs.Steps.{at_front, at_other, at_pushed}
 use Rattle.history_tree.proofs.Trees.{IsGrown}
 
--- nodes keep their records, and those that were there their levels and parents
+-- nodes keep their records, and those that were there their levels, starts and parents
 pub record Keeps (old new : List Node) : Type 0 where
   pub len : length old ≤ length new
   pub records : (n : ℕ) → (node_at new n).intervals ≡ (node_at old n).intervals
   pub level : (n : ℕ) → n < length old → (node_at new n).level ≡ (node_at old n).level
+  pub start : (n : ℕ) → n < length old → (node_at new n).start ≡ (node_at old n).start
   pub parent : (n p : ℕ) → n < length old → (node_at old n).parent ≡ Some p → (node_at new n).parent ≡ Some p
 
 pub keeps_all : (nodes : List Node) → Keeps nodes nodes
-keeps_all nodes = record { len = omega arith; records = λ n. refl; level = λ n there. refl; parent = λ n p there e. e }
+keeps_all nodes = record { len = omega arith; records = λ n. refl; level = λ n there. refl; start = λ n there. refl; parent = λ n p there e. e }
 
 pub keeps_both : (a b c : List Node) → Keeps a b → Keeps b c → Keeps a c
 keeps_both a b c f g = record {
   len = omega (arith, f.len, g.len);
   records = λ n. g.records n ∙ f.records n;
   level = λ n there. g.level n (omega (arith, f.len)) ∙ f.level n there;
+  start = λ n there. g.start n (omega (arith, f.len)) ∙ f.start n there;
   parent = λ n p there e. g.parent n p (omega (arith, f.len)) (f.parent n p there e);
 }
 
@@ -46,6 +48,7 @@ keeps_ended nodes k end =
       len = omega (arith, length-set nodes k x);
       records = kept_set (λ (y : Node). y.intervals) nodes k x refl;
       level = λ n there. kept_set (λ (y : Node). y.level) nodes k x refl n;
+      start = λ n there. kept_set (λ (y : Node). y.start) nodes k x refl n;
       parent = λ n p there e. kept_set (λ (y : Node). y.parent) nodes k x refl n ∙ e;
     }
 
@@ -54,6 +57,7 @@ keeps_pushed nodes level start = record {
   len = omega (arith, length-append nodes (opened level start ∷ []));
   records = records_pushed nodes level start;
   level = λ n there. ap (λ (y : Node). y.level) (at_front nodes (opened level start) n there);
+  start = λ n there. ap (λ (y : Node). y.start) (at_front nodes (opened level start) n there);
   parent = λ n p there e. ap (λ (y : Node). y.parent) (at_front nodes (opened level start) n there) ∙ e;
 }
 
@@ -66,6 +70,7 @@ keeps_adopted parent child nodes orphan =
       len = omega (arith, length-set nodes parent x, length-set grown child y);
       records = λ n. kept_set (λ (z : Node). z.intervals) grown child y refl n ∙ kept_set (λ (z : Node). z.intervals) nodes parent x refl n;
       level = λ n there. kept_set (λ (z : Node). z.level) grown child y refl n ∙ kept_set (λ (z : Node). z.level) nodes parent x refl n;
+      start = λ n there. kept_set (λ (z : Node). z.start) grown child y refl n ∙ kept_set (λ (z : Node). z.start) nodes parent x refl n;
       parent = λ n p there e. ap (λ (z : Node). z.parent) (at_other grown child n y (differs n p e)) ∙ (kept_set (λ (z : Node). z.parent) nodes parent x refl n ∙ e);
     }
   where

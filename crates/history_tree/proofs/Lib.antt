@@ -1,6 +1,7 @@
 pub mod Climbs
 pub mod Rows
 pub mod Shortening
+pub mod Beginning
 pub mod Steps
 pub mod Ranges
 pub mod Nesting

@@ -1,25 +1,50 @@
--- One node of a new branch.
-use Rattle.std.proofs.Common.{◌≡◌, ◌≢◌, ℕ, suc, ◌+◌, ◌-◌, ◌<◌, List, [], ◌∷◌, ◌++◌, length, sym, ap, ◌∙◌, arith}
+-- One node of a new branch after the other.
+use Rattle.std.proofs.Common.{◌≡◌, ℕ, suc, ◌+◌, ◌-◌, ◌<◌, ◌≤◌, List, [], ◌∷◌, ◌++◌, length, refl, ap, ◌∙◌, arith}
 use Rattle.history_nodes.specs.declared.node.Node.{Node}
-use Rattle.history_nodes.specs.Nodes.{node_at, opened, adopted}
+use Rattle.history_nodes.specs.declared.children.TheConstants.{MAX_CHILDREN}
+use Rattle.history_nodes.specs.Nodes.{NodeList, node_at, opened, adopted, with_parent}
 use Rattle.history_tree.specs.Placement.{with_branch, with_child_node}
 use Rattle.history_tree.proofs.Steps.{is_grown_below}
 
--- a node was pushed and adopted
-pub record IsOpened (nodes new : List Node) (parent child start : ℕ) : Type 0 where
-  pub number : child ≡ length nodes
-  pub level : (node_at new child).level + 1 ≡ (node_at nodes parent).level
-  pub is : new ≡ with_child_node parent (node_at new child).level start nodes
+-- the branch below this node is what is left of the branch below the parent
+pub record IsOpening (old now : NodeList) (parent number level start : ℕ) : Type 0 where
+  pub there : number < length now.nodes
+  pub room : length (node_at now.nodes number).children < MAX_CHILDREN
+  pub spare : now.spare + (node_at old.nodes parent).level ≡ old.spare + level
+  pub enough : level ≤ now.spare
+  pub low : level ≤ (node_at old.nodes parent).level
+  pub first : level ≡ (node_at old.nodes parent).level → number ≡ parent
+  pub newest : level < (node_at old.nodes parent).level → number ≡ length now.nodes - 1
+  pub whole : with_branch number level start now.nodes ≡ with_branch parent (node_at old.nodes parent).level start old.nodes
 
-pub is_opened : (nodes pushed new : List Node) (x : Node) (parent child level start : ℕ) → parent < length nodes → level ≡ (node_at nodes parent).level → level ≢ 0 → x ≡ opened (level - 1) start → child ≡ length nodes → pushed ≡ nodes ++ x ∷ [] → new ≡ adopted parent child pushed → IsOpened nodes new parent child start
-is_opened nodes pushed new x parent child level start there high pos is_x is_child is_pushed is_new =
-    let step = is_grown_below nodes parent (level - 1) start there in
-    let whole : new ≡ with_child_node parent (level - 1) start nodes = is_new ∙ (ap (λ n. adopted parent n pushed) is_child ∙ (ap (adopted parent (length nodes)) (is_pushed ∙ ap (λ (y : Node). nodes ++ y ∷ []) is_x))) in
-    let low : (node_at new child).level ≡ level - 1 = ap (λ n. (node_at new n).level) is_child ∙ (ap (λ (ns : List Node). (node_at ns (length nodes)).level) whole ∙ ap (λ (y : Node). y.level) step.child) in
-    record { number = is_child; level = omega (arith, low, high, pos); is = whole ∙ ap (λ l. with_child_node parent l start nodes) (sym low) }
+pub opening_begins : (nodes : NodeList) (parent level start : ℕ) → parent < length nodes.nodes → length (node_at nodes.nodes parent).children < MAX_CHILDREN → (node_at nodes.nodes parent).level ≤ nodes.spare → level ≡ (node_at nodes.nodes parent).level → IsOpening nodes nodes parent parent level start
+opening_begins nodes parent level start there room spare is = record {
+  there = there;
+  room = room;
+  spare = omega (arith, is);
+  enough = omega (arith, is, spare);
+  low = omega (arith, is);
+  first = λ e. refl;
+  newest = λ lt. absurd (omega (arith, is, lt));
+  whole = ap (λ l. with_branch parent l start nodes.nodes) is;
+}
 
--- the branch below it is the rest of the branch
-pub branch_step : (nodes new final : List Node) (parent child start : ℕ) → IsOpened nodes new parent child start → final ≡ with_branch child (node_at new child).level start new → final ≡ with_branch parent (node_at nodes parent).level start nodes
-branch_step nodes new final parent child start o is =
-    let high : (node_at nodes parent).level ≡ suc (node_at new child).level = omega (arith, o.level) in
-    rw high (is ∙ (ap (λ n. with_branch n (node_at new child).level start new) o.number ∙ ap (with_branch (length nodes) (node_at new child).level start) o.is))
+-- after a node was pushed and adopted
+pub opening_on : (old now new : NodeList) (pushed : List Node) (x : Node) (parent number child level start : ℕ) → IsOpening old now parent number level start → 0 < level → x ≡ opened (level - 1) start → child ≡ length now.nodes → pushed ≡ now.nodes ++ x ∷ [] → new.nodes ≡ adopted number child pushed → new.spare + 1 ≡ now.spare → IsOpening old new parent child (level - 1) start
+opening_on old now new pushed x parent number child level start o pos is_x is_child is_pushed is_new is_spare =
+    let step = is_grown_below now.nodes number (level - 1) start o.there in
+    let is : new.nodes ≡ with_child_node number (level - 1) start now.nodes = is_new ∙ (ap (λ n. adopted number n pushed) is_child ∙ (ap (adopted number (length now.nodes)) (is_pushed ∙ ap (λ (y : Node). now.nodes ++ y ∷ []) is_x))) in
+    let here : node_at new.nodes child ≡ with_parent number (opened (level - 1) start) = ap (node_at new.nodes) is_child ∙ (ap (λ (ns : List Node). node_at ns (length now.nodes)) is ∙ step.child) in
+    let len : length new.nodes ≡ length now.nodes + 1 = ap (λ (ns : List Node). length ns) is ∙ step.len in
+    let none : length (node_at new.nodes child).children ≡ 0 = ap (λ (y : Node). length y.children) here in
+    let next : suc (level - 1) ≡ level = omega (arith, pos) in
+    record {
+      there = omega (arith, len, is_child);
+      room = omega (arith, none);
+      spare = omega (arith, o.spare, is_spare, pos);
+      enough = omega (arith, o.enough, is_spare, pos);
+      low = omega (arith, o.low);
+      first = λ e. absurd (omega (arith, e, o.low, pos));
+      newest = λ lt. omega (arith, len, is_child);
+      whole = ap (λ n. with_branch n (level - 1) start new.nodes) is_child ∙ (ap (with_branch (length now.nodes) (level - 1) start) is ∙ (ap (λ l. with_branch number l start now.nodes) next ∙ o.whole));
+    }

@@ -6,9 +6,9 @@ use Rattle.history_nodes.specs.declared.interval.Interval.{Interval}
 use Rattle.history_nodes.specs.declared.node.Node.{Node}
 use Rattle.history_nodes.specs.Intervals.{is_of}
 use Rattle.history_nodes.specs.Nodes.{node_at}
-use Rattle.history_tree.specs.Records.{records_of, IsMember, IsAt, content_of, IsHeld}
+use Rattle.history_tree.specs.Records.{records_of, IsAt, content_of, IsHeld}
 use Rattle.history_tree.specs.Tree.{NodeTree, IsTree}
-use Rattle.history_tree.proofs.Contents.{member_left, member_right, member_split, get_member}
+use Rattle.history_tree.proofs.Contents.{IsMember, member_left, member_right, member_split, get_member}
 
 -- ---- records of nodes
 pub record IsStoredIn (nodes : List Node) (i : Interval) : Type 0 where

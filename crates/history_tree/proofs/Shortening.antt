@@ -1,5 +1,5 @@
 -- Chains past full nodes, and shortcuts along them.
-use Rattle.std.proofs.Common.{◌≡◌, ◌≢◌, ◌⊎◌, inl, inr, ℕ, ◌+◌, ◌<◌, false, List, [], ◌∷◌, ◌++◌, length, Option, None, Some, IfSome, refl, sym, ◌∙◌, subst, arith, length-append}
+use Rattle.std.proofs.Common.{◌≡◌, ◌≢◌, ◌⊎◌, inl, inr, ℕ, ◌+◌, ◌<◌, false, List, [], ◌∷◌, ◌++◌, length, Option, None, Some, IfNone, IfSome, refl, sym, ◌∙◌, subst, arith, length-append}
 use Rattle.std.specs.List.{AllByRecursion}
 use Rattle.std.specs.Option.{unwrap_or}
 use Rattle.std.proofs.lemmas.Bool.{cases_order}
@@ -8,7 +8,7 @@ use Rattle.history_nodes.specs.declared.node.Node.{Node}
 use Rattle.history_nodes.specs.Nodes.{node_at}
 use Rattle.history_tree.specs.Placement.{LeadUp, has_room}
 use Rattle.history_tree.specs.Climbing.{AreClimbed}
-use Rattle.history_tree.specs.Shortcuts.{LeadsPast, IsShortcut, AreShortcuts, IsShortened, HaveSameShortcuts, shortcut_of}
+use Rattle.history_tree.specs.Shortcuts.{LeadsPast, EndsClimb, IsShortcut, AreShortcuts, IsShortened, HaveSameShortcuts, shortcut_of}
 use Rattle.history_tree.proofs.Climbs.{height}
 
 -- ---- chains one after the other
@@ -42,6 +42,10 @@ shortcut_up nodes n (Some p) c there full e =
       past = record { begins = there; there = a.there; level = omega (arith, a.level); passed = n ∷ []; up = (refl, sym e); full = (full, tt) };
       higher = omega (arith, a.level);
     }
+
+pub ends_there : (nodes : List Node) (n : ℕ) (o : Option ℕ) → o ≡ (node_at nodes n).parent → IfNone o (EndsClimb nodes n)
+ends_there nodes n None e = inr (sym e)
+ends_there nodes n (Some p) e = tt
 
 -- one step further, where there's one
 pub shortcut_further : (nodes : List Node) (low mid high : ℕ) (o : Option ℕ) → IsShortcut nodes low mid → IfSome o (IsShortcut nodes mid) → high ≡ unwrap_or o mid → IsShortcut nodes low high

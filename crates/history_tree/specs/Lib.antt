@@ -5,4 +5,5 @@ pub mod Climbing
 pub mod Ways
 pub mod Places
 pub mod Shortcuts
+pub mod Earlier
 pub mod Index

@@ -1,4 +1,4 @@
--- Where the intervals of each number are.
+-- Where the intervals of each number are (this project's own).
 use Rattle.std.specs.Prelude.{◌≡◌, ◌≢◌, ℕ, ◌<◌, ◌≤◌, List, [], length, slice_index_or, Contains}
 use Rattle.history_nodes.specs.declared.interval.Interval.{Interval}
 use Rattle.history_tree.specs.declared.places.Place.{Place}

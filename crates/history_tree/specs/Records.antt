@@ -1,5 +1,5 @@
 -- The records of all nodes, and the map that they are.
-use Rattle.std.specs.Prelude.{◌≡◌, ◌⊎◌, ℕ, ◌≤◌, List, [], ◌∷◌, ◌++◌, map, Some}
+use Rattle.std.specs.Prelude.{◌≡◌, ℕ, ◌≤◌, List, [], ◌∷◌, ◌++◌, map, Some}
 use Rattle.std.specs.List.{AllByRecursion}
 use Rattle.std.specs.Ordering.{nat_cmp}
 use Rattle.std.specs.Cmp.Lexicographic.{slice_cmp}
@@ -12,11 +12,6 @@ use Rattle.history_nodes.specs.declared.node.Node.{Node}
 abbrev pub records_of : List Node → List Interval
 records_of [] = []
 records_of (node ∷ nodes) = node.intervals ++ records_of nodes
-
--- the interval is one of these
-abbrev pub IsMember : Interval → List Interval → Type 0
-IsMember i [] = ⊥
-IsMember i (j ∷ js) = (j ≡ i) ⊎ IsMember i js
 
 -- the interval holds the instant
 pub record IsAt (t : ℕ) (i : Interval) : Type 0 where

@@ -1,5 +1,5 @@
--- Shortcuts up a branch, past full nodes.
-use Rattle.std.specs.Prelude.{◌≡◌, ◌≢◌, ◌⊎◌, ℕ, ◌<◌, ◌≤◌, false, List, length, Some, slice_index_or}
+-- Shortcuts up a branch, past full nodes (this project's own).
+use Rattle.std.specs.Prelude.{◌≡◌, ◌≢◌, ◌⊎◌, ℕ, ◌<◌, ◌≤◌, false, true, List, length, None, Some, slice_index_or}
 use Rattle.std.specs.List.{AllByRecursion}
 use Rattle.history_nodes.specs.declared.node.Node.{Node}
 use Rattle.history_nodes.specs.Nodes.{node_at}
@@ -18,6 +18,10 @@ pub record LeadsPast (nodes : List Node) (low high : ℕ) : Type 0 where
 pub record IsShortcut (nodes : List Node) (low high : ℕ) : Type 0 where
   pub past : LeadsPast nodes low high
   pub higher : (node_at nodes low).level < (node_at nodes high).level
+
+-- a climb past full nodes ends at this node: it has room, or nothing is above it
+abbrev pub EndsClimb : List Node → ℕ → Type 0
+EndsClimb nodes n = (has_room (node_at nodes n) ≡ true) ⊎ ((node_at nodes n).parent ≡ None)
 
 -- the node that a node's shortcut leads to; the node itself where it has none
 abbrev pub shortcut_of : List ℕ → ℕ → ℕ

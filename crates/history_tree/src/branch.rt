@@ -1,12 +1,14 @@
 //! Steps along the latest branch: up to a node with room, and down to a new leaf.
-ghost use Rattle.std.specs.Prelude.{◌≡◌, ◌+◌, ◌-◌, ◌<◌, ◌≤◌, ◌^◌, length, List, ℕ, None, Some};
+ghost use Rattle.std.specs.Prelude.{◌≡◌, ◌+◌, ◌-◌, ◌<◌, ◌≤◌, ◌^◌, length, List, ℕ, None, Some, false};
 ghost use Rattle.std.specs.Option.{ForSome};
 ghost use Rattle.history_nodes.specs.Nodes.{node_at};
 ghost use Rattle.history_nodes.specs.declared.children.TheConstants.{MAX_CHILDREN};
 ghost use Rattle.history_tree.specs.Placement.{LeadUp, IsFirst, has_rooms, takes, with_root_node, all_ended, with_branch};
 ghost use Rattle.history_tree.specs.Climbing.{AreClimbed, AreOpen};
 ghost use Rattle.history_tree.specs.Shortcuts.{AreShortcuts};
+ghost use Rattle.history_tree.specs.Earlier.{AreEarlier, PassesBy};
 
+use crate::earlier::Earlier;
 use crate::shortcuts::Shortcuts;
 use history_nodes::{Node, Nodes};
 
@@ -45,12 +47,14 @@ fn has_rooms(nodes: &Nodes, number: usize) -> bool
 pub fn first_that_takes(
     nodes: &Nodes,
     shortcuts: &mut Shortcuts,
+    earlier: &Earlier,
     from: Option<usize>,
     start: u64,
 ) -> Option<usize>
     requires climbed { AreClimbed nodes.now.nodes }
     requires from { ForSome from (λ n. n < length nodes.now.nodes) }
     requires shortcuts { AreShortcuts nodes.now.nodes shortcuts.old }
+    requires earlier { AreEarlier nodes.now.nodes earlier.now }
     ensures first { IsFirst (takes start) nodes.now.nodes from result }
     ensures shortcuts { AreShortcuts nodes.now.nodes shortcuts.new }
 {
@@ -60,9 +64,24 @@ pub fn first_that_takes(
         if takes(nodes, free, start) {
             return Some(free);
         }
-        next = nodes.shape(free).parent;
+        next = next_after(nodes, earlier, free, start);
     }
     None
+}
+
+// What comes after a node that doesn't take an interval of this start.
+fn next_after(nodes: &Nodes, earlier: &Earlier, number: usize, start: u64) -> Option<usize>
+    requires climbed { AreClimbed nodes.now.nodes }
+    requires number { number < length nodes.now.nodes }
+    requires earlier { AreEarlier nodes.now.nodes earlier.now }
+    requires fails { takes start (node_at nodes.now.nodes number) ≡ false }
+    ensures { PassesBy nodes.now.nodes start number result }
+{
+    let shape = nodes.shape(number);
+    if start < shape.start {
+        return earlier.above(nodes, number);
+    }
+    shape.parent
 }
 
 // Whether a node began by an instant and has room for a record.
@@ -97,12 +116,12 @@ pub fn close_below(nodes: &mut Nodes, from: usize, top: usize, end: u64)
     ensures nodes { (numbers : List ℕ) × LeadUp nodes.old.nodes (Some from) numbers (Some top) × (nodes.new.nodes ≡ all_ended end numbers nodes.old.nodes) }
     ensures spare { nodes.new.spare ≡ nodes.old.spare }
 {
-    if from == top {
-        return;
+    let mut number = from;
+    while number != top {
+        let above = nodes.shape(number).parent;
+        nodes.close(number, end);
+        number = above.unwrap();
     }
-    let above = nodes.shape(from).parent;
-    nodes.close(from, end);
-    close_below(nodes, above.unwrap(), top, end);
 }
 
 /// Makes a node for each level below a parent, down to a leaf, and answers the number of the last one. There is room for
@@ -116,11 +135,13 @@ pub fn open_below(nodes: &mut Nodes, parent: usize, start: u64) -> usize
     ensures newest { 0 < (node_at nodes.old.nodes parent).level → result ≡ length nodes.new.nodes - 1 }
     ensures spare { nodes.new.spare + (node_at nodes.old.nodes parent).level ≡ nodes.old.spare }
 {
-    let level = nodes.shape(parent).level;
-    if level == 0 {
-        return parent;
+    let mut number = parent;
+    let mut level = nodes.shape(parent).level;
+    while level > 0 {
+        let child = nodes.push(Node::new(level - 1, start)).unwrap();
+        nodes.adopt(number, child);
+        number = child;
+        level -= 1;
     }
-    let child = nodes.push(Node::new(level - 1, start)).unwrap();
-    nodes.adopt(parent, child);
-    open_below(nodes, child, start)
+    number
 }

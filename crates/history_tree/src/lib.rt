@@ -2,6 +2,7 @@
 #![tactic(auto)]
 
 mod branch;
+mod earlier;
 mod places;
 mod room;
 mod shortcuts;

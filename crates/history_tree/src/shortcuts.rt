@@ -1,7 +1,7 @@
 //! Shortcuts up a branch: a full node stays full, so that a search for room need not come to it again.
-ghost use Rattle.std.specs.Prelude.{◌≡◌, ◌<◌, [], length, IfSome};
+ghost use Rattle.std.specs.Prelude.{◌≡◌, ◌<◌, [], length, IfNone, IfSome};
 ghost use Rattle.history_tree.specs.Climbing.{AreClimbed};
-ghost use Rattle.history_tree.specs.Shortcuts.{shortcut_of, AreShortcuts, HaveSameShortcuts, IsShortcut, IsShortened, LeadsPast};
+ghost use Rattle.history_tree.specs.Shortcuts.{shortcut_of, AreShortcuts, EndsClimb, HaveSameShortcuts, IsShortcut, IsShortened, LeadsPast};
 
 use history_nodes::Nodes;
 use std::alloc::Global;
@@ -43,7 +43,7 @@ impl Shortcuts {
         Ok(())
     }
 
-    /// A node from which on there may be room for a record: of a node and those above it, all before that one are full.
+    /// Of a node and those above it the first that has room for a record, or else the last.
     /// The shortcuts on the way to it are made longer.
     pub fn pass_full(&mut self, nodes: &Nodes, from: usize) -> usize
         requires climbed { AreClimbed nodes.now.nodes }
@@ -51,6 +51,7 @@ impl Shortcuts {
         requires shortcuts { AreShortcuts nodes.now.nodes self.old }
         ensures shortcuts { AreShortcuts nodes.now.nodes self.new }
         ensures past { LeadsPast nodes.now.nodes from result }
+        ensures ends { EndsClimb nodes.now.nodes result }
     {
         let mut number = from;
         while let Some(above) = self.next_up(nodes, number) {
@@ -66,7 +67,8 @@ impl Shortcuts {
         requires climbed { AreClimbed nodes.now.nodes }
         requires number { number < length nodes.now.nodes }
         requires shortcuts { AreShortcuts nodes.now.nodes self.now }
-        ensures { IfSome result (IsShortcut nodes.now.nodes number) }
+        ensures up { IfSome result (IsShortcut nodes.now.nodes number) }
+        ensures ends { IfNone result (EndsClimb nodes.now.nodes number) }
     {
         if nodes.has_room(number) {
             return None;

@@ -10,6 +10,7 @@ ghost use Rattle.history_tree.specs.Placement.{IsPlaced};
 ghost use Rattle.history_tree.specs.Ways.{IsWay};
 
 use crate::branch::first_that_takes;
+use crate::earlier::Earlier;
 use crate::places::{Place, Places};
 use crate::room::{found_or_root, make_ready};
 use crate::shortcuts::Shortcuts;
@@ -29,6 +30,7 @@ pub struct Tree {
     greatest: u64,
     places: Places,
     shortcuts: Shortcuts,
+    earlier: Earlier,
 }
 
 impl Model for Tree {
@@ -39,7 +41,7 @@ impl Model for Tree {
 
     ghost view = { λ t. tree_of t.nodes.nodes t.root t.leaf t.greatest };
 
-    ghost invariant = { λ t. IsEquipped (tree_of t.nodes.nodes t.root t.leaf t.greatest) t.places t.shortcuts };
+    ghost invariant = { λ t. IsEquipped (tree_of t.nodes.nodes t.root t.leaf t.greatest) t.places t.shortcuts t.earlier };
 }
 
 impl Tree {
@@ -56,6 +58,7 @@ impl Tree {
             greatest: 0,
             places: Places::new(alloc),
             shortcuts: Shortcuts::new(alloc),
+            earlier: Earlier::new(alloc),
         })
     }
 
@@ -70,6 +73,7 @@ impl Tree {
         self.nodes.reserve(more)?;
         self.places.reserve(interval.number)?;
         self.shortcuts.reach(self.nodes.len())?;
+        self.earlier.reach(&self.nodes)?;
         let (leaf, greatest) = (self.leaf, self.greatest);
         let (row, start) = (interval.number, interval.start);
         let end = greatest.max(interval.end);
@@ -80,7 +84,13 @@ impl Tree {
             leaf,
             greatest,
         );
-        let found = first_that_takes(&self.nodes, &mut self.shortcuts, Some(leaf), start);
+        let found = first_that_takes(
+            &self.nodes,
+            &mut self.shortcuts,
+            &self.earlier,
+            Some(leaf),
+            start,
+        );
         let number = found_or_root(&mut self.nodes, &mut self.root, found);
         self.nodes.put(number, interval);
         let place = Place {
@@ -142,12 +152,13 @@ mod tests {
             greatest,
             places,
             shortcuts,
+            earlier,
         } = Tree::new(rt.alloc())?;
         let nodes: Nodes = nodes;
         let numbers: (usize, usize) = (root, leaf);
         let greatest: u64 = greatest;
         let place: Option<Place> = places.latest(0, 0);
-        let _shortcuts: Shortcuts = shortcuts;
+        let _ways: (Shortcuts, Earlier) = (shortcuts, earlier);
         assert_eq!(rt; nodes.len(), 1);
         assert_eq!(rt; numbers, (0, 0));
         assert_eq!(rt; greatest, 0);

@@ -1,5 +1,6 @@
 use Rattle.std.proofs.Common.{◌≡◌, ◌+◌, ◌*◌, ◌^◌, ◌<◌, ◌∷◌, [], ◌++◌, length, sym, ap, ◌∙◌, append_assoc, rules}
 use Rattle.kernel_provider.specs.Given.{left}
+use Rattle.kernel_provider.specs.Steps.{steps_of}
 use Rattle.history_core.proofs.Lawful.{next_few, next_follows}
 use Rattle.hosttrace_tests.proofs.history_runs.built.Goals as goal
 
@@ -14,6 +15,11 @@ apply-requires g c =
       follows = next_follows c.args.events.now c.requires before.0 rest c.in-Some.step same c.loop.history before.1;
       few = next_few c.args.events.now small before.0 rest c.in-Some.step same c.loop.history before.1;
     }
+
+pub loop-init : goal.loop-init
+loop-init g c =
+    let all : steps_of c.args.events.now ≡ [] ++ left c.new-provider.result c.args.events.now = search rules in
+    ([], c.in_ok-history.ensures.stands, all)
 
 pub loop-preserved : goal.loop-preserved
 loop-preserved g c =
