@@ -1,5 +1,6 @@
 """What the scripts of bench/ and .ci/ share: where things lie, what builds the programs, and how runs are measured."""
 import os
+import re
 import shutil
 import subprocess
 import sys
@@ -8,6 +9,9 @@ from pathlib import Path
 
 TOP = Path(__file__).resolve().parent.parent
 EXAMPLES = TOP / "examples/three-hosts"
+
+# How the script hosttrace starts the program: the C library takes memory in large pages and in large steps.
+TUNABLES = re.search(r"GLIBC_TUNABLES-([^}]*)}", (TOP / "hosttrace").read_text())[1]
 
 
 def ready(script: Path, words: list, program: Path) -> Path:
@@ -33,6 +37,12 @@ def hosttrace_bench() -> Path:
         return Path(os.environ["HOSTTRACE_BENCH"]).resolve()
     words = ["count", TOP / "crates/hosttrace_bench/data/small.tsdl"]
     return ready(TOP / "bench/hosttrace_bench", words, TOP / "crates/hosttrace_bench/out/hosttrace_bench")
+
+
+def environment(command: list) -> dict:
+    """That of a command: the program's has what the script sets, and a peer's hasn't."""
+    own = Path(command[0]).resolve() == Path(os.environ.get("HOSTTRACE", TOP / "crates/hosttrace_cli/out/hosttrace_cli")).resolve()
+    return {"GLIBC_TUNABLES": TUNABLES, **os.environ} if own else dict(os.environ)
 
 
 def compiled(source: str, folder: Path) -> Path:
@@ -65,7 +75,7 @@ def seconds(*commands: list) -> float:
     """The seconds that whole processes take, one after the other."""
     begun = time.monotonic()
     for command in commands:
-        subprocess.run(command, check=True, stdout=subprocess.DEVNULL, stderr=subprocess.DEVNULL)
+        subprocess.run(command, check=True, stdout=subprocess.DEVNULL, stderr=subprocess.DEVNULL, env=environment(command))
     return time.monotonic() - begun
 
 
@@ -73,7 +83,7 @@ def measured(command: list, out: Path = Path(os.devnull)) -> tuple:
     """Seconds and bytes at the peak of one run."""
     with open(out, "wb") as file:
         begun = time.monotonic()
-        process = subprocess.Popen(command, stdout=file)
+        process = subprocess.Popen(command, stdout=file, env=environment(command))
         _, status, usage = os.wait4(process.pid, 0)
         took = time.monotonic() - begun
     process.returncode = os.waitstatus_to_exitcode(status)
