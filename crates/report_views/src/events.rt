@@ -1,5 +1,5 @@
 //! The text of merged events, batch by batch. A batch's stretches of lines are written side by side.
-ghost use Rattle.std.specs.Prelude.{◌≡◌, ◌≤◌, ◌<◌, ◌↔◌, All, IfOk, IsTrue, flat_map, length, take};
+ghost use Rattle.std.specs.Prelude.{◌≡◌, ◌⊎◌, ◌+◌, ◌≤◌, ◌<◌, ◌↔◌, All, IfOk, IsTrue, flat_map, length, take};
 ghost use Rattle.event_list.specs.Lines.{first_line};
 ghost use Rattle.event_list.specs.Names.{names_at};
 ghost use Rattle.report_views.specs.Stretches.{AreShort, IsStretchText, printed_size};
@@ -34,12 +34,13 @@ pub fn events_head() -> &'static [u8]
     FIRST_LINE
 }
 
-/// How many of the first events make a batch: at least one, where there is one.
+/// How many of the first events make a batch: at least one, where there is one, and as many as may be.
 pub fn batch_length(names: &[NameList], events: &[Merged]) -> usize
     ensures some { 0 < length events.now → 0 < result }
     ensures within { result ≤ length events.now }
     ensures few { result ≤ BATCH_LENGTH }
     ensures small { 1 < result → printed_size (names_at names.now) (take result events.now) ≤ NAMES_SIZE }
+    ensures most { result < length events.now → (result ≡ BATCH_LENGTH) ⊎ (NAMES_SIZE < printed_size (names_at names.now) (take (result + 1) events.now)) }
 {
     let front = &events[..events.len().min(BATCH_LENGTH)];
     if are_all_short(names) {
@@ -67,6 +68,7 @@ fn small_length(names: &[NameList], events: &[Merged]) -> usize
     ensures some { 0 < length events.now → 0 < result }
     ensures within { result ≤ length events.now }
     ensures small { 1 < result → printed_size (names_at names.now) (take result events.now) ≤ NAMES_SIZE }
+    ensures most { result < length events.now → NAMES_SIZE < printed_size (names_at names.now) (take (result + 1) events.now) }
 {
     let mut size = 0usize;
     for (count, event) in events.iter().enumerate() {
