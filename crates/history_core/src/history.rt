@@ -200,6 +200,19 @@ mod tests {
         history.tree.find(number, t, &mut Reads::new())
     }
 
+    // How many of the first 16 numbers have a stored interval that holds an instant.
+    fn held_at(history: &History, t: u64) -> usize
+        requires { t < TIME_END }
+    {
+        let mut count = 0usize;
+        for number in 0..16 {
+            if held(history, number, t).is_some() {
+                count = count.wrapping_add(1);
+            }
+        }
+        count
+    }
+
     // Numbers 0, 3 and 7 are the status of the idle thread, that of bash, and the processor's thread.
     #[test]
     fn a_change_closes_the_interval_before(rt: HostRuntime) -> Result<(), Fail> {
@@ -218,7 +231,10 @@ mod tests {
         assert!(rt; held(&history, 3, 249) == Some(interval(3, 1)));
         assert!(rt; held(&history, 0, 100) == Some(interval(0, 2)));
         assert!(rt; held(&history, 7, 150) == Some(interval(7, 7)));
-        assert!(rt; held(&history, 7, 250).is_none());
+        assert_eq!(rt; held_at(&history, 99), 0);
+        assert_eq!(rt; held_at(&history, 100), 3);
+        assert_eq!(rt; held_at(&history, 249), 3);
+        assert_eq!(rt; held_at(&history, 250), 0);
         Ok(())
     }
 
@@ -230,8 +246,8 @@ mod tests {
         let there = switch(100, (0, 0, idle), (7, bash));
         let further = switch(100, (7, 1, bash), (8, idle));
         let history = history_of(rt.alloc(), &[there, further])?;
-        assert!(rt; held(&history, 7, 100).is_none());
-        assert!(rt; held(&history, 7, 99).is_none());
+        assert_eq!(rt; held_at(&history, 99), 0);
+        assert_eq!(rt; held_at(&history, 100), 0);
         Ok(())
     }
 
