@@ -1,5 +1,5 @@
 -- Fields that are passed over, and events that are read without them.
-use Rattle.std.proofs.Common.{◌≡◌, ◌∙◌, ℕ, ◌+◌, ◌%◌, ◌≤◌, false, true, nat_eq, if◌then◌else◌, List, Option, None, Some, Ok, Err, sym, ap, arith}
+use Rattle.std.proofs.Common.{◌≡◌, ◌∙◌, ℕ, ◌+◌, ◌%◌, ◌≤◌, ◌&&◌, false, true, is_none, nat_eq, if◌then◌else◌, List, Option, None, Some, Result, Ok, Err, refl, sym, ap, arith}
 use Rattle.ctf_fields.specs.declared.error.FieldError.TheVariants.{ShortContent, NoVariant, TooLong, OutOfMemory}
 use Rattle.ctf_fields.specs.declared.field.Field.{Field}
 use Rattle.ctf_fields.specs.Fields.{Scopes}
@@ -7,17 +7,20 @@ use Rattle.read_plan.specs.FixedSizes.{FieldsTake, Passes}
 use Rattle.ctf_fields.specs.Reading.{Reads, Got, Fails, scope_read}
 use Rattle.read_plan.proofs.Passing.{as_passes}
 use Rattle.type_table.specs.PerScope.{with_scope}
-use Rattle.type_table.specs.declared.meta.ScopeName.TheVariants.{EventHeader}
+use Rattle.type_table.specs.declared.meta.ScopeName.TheVariants.{EventContext, EventHeader, StreamContext}
+use Rattle.type_table.specs.declared.declared.EventParts.{EventParts}
+use Rattle.ctf_fields.specs.declared.raw.RawEvent.{RawEvent}
 use Rattle.packet_decoder.specs.declared.events.Cursor.{Cursor}
 use Rattle.packet_decoder.specs.declared.events.EventHead.{EventHead}
-use Rattle.packet_decoder.specs.Events.{PacketModel, as_result, event, event_body, event_head, event_timed, field_or_none, from_of}
+use Rattle.packet_decoder.specs.Events.{PacketModel, as_result, event, event_body, event_fields, event_head, event_timed, field_or_none, from_of, scope_at}
 use Rattle.packet_decoder.specs.declared.failure.Failure.{Failure}
 use Rattle.packet_decoder.specs.declared.failure.Failure.TheVariants.{Refused}
 use Rattle.packet_decoder.specs.declared.failure.Failure.TheVariants.{OutOfMemory as NoMemory}
-use Rattle.packet_decoder.specs.EventReaders.{EventReadAs, FieldsReadAs, IsHeadReadAs}
+use Rattle.packet_decoder.specs.EventReaders.{EndsAs, EventPassedAs, EventReadAs, FieldsReadAs, HeadToldAs, IsHeadReadAs, is_bare}
 use Rattle.packet_decoder.specs.PacketHeads.{and_then, read_scope}
 use Rattle.packet_decoder.proofs.PlannedHeads.{body_same}
-use Rattle.packet_decoder.specs.Times.{time_after}
+use Rattle.packet_decoder.specs.Times.{in_range, rate_of, time_after, time_of}
+use Rattle.type_table.specs.TraceMetas.{TraceMetaModel}
 use Rattle.trace_types.specs.declared.cause.Cause.{Cause}
 use Rattle.trace_types.specs.declared.cause.Cause.TheVariants as cause
 
@@ -76,3 +79,53 @@ pub by_fields : (skips : List (Option ℕ)) (skip : Option ℕ) (w : PacketModel
     → FieldsReadAs skip (event_body w (with_scope EventHeader head.header s) head.parts head.at) (Err e) → EventReadAs skips (event w s c) (Err e)
 by_fields skips skip w s c first head (Refused cause) read heads bodies = body_refused w s c first head cause read heads bodies
 by_fields skips skip w s c first head NoMemory read heads bodies = tt
+
+-- where nothing is declared to stand after a header, nothing does
+nothing_behind : (w : PacketModel) (s : Scopes) (parts : EventParts) (at : ℕ) → w.parts.event_context ≡ None → parts.context ≡ None → parts.fields ≡ None → event_body w s parts at ≡ Ok (None, at)
+unfolding event_body event_fields
+nothing_behind w s parts at outer context fields =
+    ap (λ ty. and_then (scope_at w s ty at) (λ x. event_fields w (with_scope StreamContext x.0 s) parts x.1)) outer
+    ∙ ap (λ ty. and_then (scope_at w (with_scope StreamContext None s) ty at) (λ x. scope_at w (with_scope EventContext x.0 (with_scope StreamContext None s)) parts.fields x.1)) context
+    ∙ ap (λ ty. scope_at w (with_scope EventContext None (with_scope StreamContext None s)) ty at) fields
+
+all_none : (a b c : Option ℕ) → is_none a && is_none b && is_none c ≡ true → (a ≡ None) × (b ≡ None) × (c ≡ None)
+all_none None None None bare = (refl, refl, refl)
+all_none None None (Some c) bare = absurd (cc)
+all_none None (Some b) c bare = absurd (cc)
+all_none (Some a) b c bare = absurd (cc)
+
+pub bare_ends : (w : PacketModel) (s : Scopes) (parts : EventParts) (at : ℕ) → true ≡ is_bare w parts → EndsAs (event_body w s parts at) (Ok at)
+bare_ends w s parts at bare =
+    let none = all_none w.parts.event_context parts.context parts.fields (sym bare) in
+    (None, nothing_behind w s parts at none.0 none.1 none.2)
+
+-- the end of what stands after a header, by how it is read
+pub ends_as : (skip : Option ℕ) (x : Result (Option Field × ℕ) Cause) (e : Failure) → FieldsReadAs skip x (Err e) → EndsAs x (Err e)
+ends_as skip x (Refused cause) h = h
+ends_as skip x NoMemory h = tt
+
+-- an event that can't be read can't be passed over
+pub passed_as : (skips : List (Option ℕ)) (x : Result (RawEvent × Cursor) Cause) (next : Cursor) (e : Failure) → EventReadAs skips x (Err e) → EventPassedAs x next (Err e)
+passed_as skips x next (Refused cause) h = h
+passed_as skips x next NoMemory h = tt
+
+-- what stands after a header can't be read, and so the event can't be passed over
+pub by_end : (w : PacketModel) (s : Scopes) (c next : Cursor) (first head : EventHead) (e : Failure) → IsHeadReadAs w.meta.table first head → event_head w s c.at ≡ Ok first
+    → EndsAs (event_body w (with_scope EventHeader head.header s) head.parts head.at) (Err e) → EventPassedAs (event w s c) next (Err e)
+by_end w s c next first head (Refused cause) read heads bodies = body_refused w s c first head cause read heads bodies
+by_end w s c next first head NoMemory read heads bodies = tt
+
+-- a header can't be read, and so the event can't be passed over
+pub by_head : (w : PacketModel) (s : Scopes) (c next : Cursor) (e : Failure) → HeadToldAs w (event_head w s c.at) (Err e) → EventPassedAs (event w s c) next (Err e)
+unfolding event
+by_head w s c next (Refused cause) heads = ap (λ x. and_then x (λ h. and_then (event_body w (with_scope EventHeader h.header s) h.parts h.at) (λ body. event_timed w c h body.0 body.1))) heads
+by_head w s c next NoMemory heads = tt
+
+-- without a timestamp the clock's value stays
+pub unstamped : (meta : TraceMetaModel) (clock value time : ℕ) → time_after meta None clock ≡ Ok (value, time) → time_after meta None clock ≡ Ok (clock, time)
+unfolding time_after
+unstamped meta clock value time is = is ∙ ap (λ v. Ok (v, time)) (by (in_range (time_of (rate_of meta None) clock)) is)
+  where
+    by : (x : Result ℕ Cause) → and_then {B = ℕ × ℕ} x (λ t. Ok (clock, t)) ≡ Ok (value, time) → value ≡ clock
+    by (Ok t) is = let both : Path (ℕ × ℕ) (value, time) (clock, t) = cc in ap (λ p. p.0) both
+    by (Err cause) is = absurd (cc)

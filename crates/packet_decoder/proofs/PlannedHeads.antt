@@ -1,7 +1,10 @@
 -- Headers that are read by a plan, and what stands after them.
-use Rattle.std.proofs.Common.{◌≡◌, ◌∙◌, inl, inr, ℕ, List, Option, None, Some, Result, Ok, Err, codes, refl, sym, ap}
+use Rattle.std.proofs.Common.{◌≡◌, ◌∙◌, inl, inr, ℕ, Bool, List, Option, None, Some, Result, Ok, Err, codes, option_map, position, slice_get, refl, sym, ap}
+use Rattle.std.specs.Map.{keys_of}
 use Rattle.type_table.specs.PerScope.{with_scope}
 use Rattle.type_table.specs.declared.declared.EventParts.{EventParts}
+use Rattle.type_table.specs.declared.declared.EventId.{EventId}
+use Rattle.type_table.specs.TraceMetas.{TraceMetaModel, same_event}
 use Rattle.type_table.specs.declared.meta.ScopeName.TheVariants.{EventContext, EventHeader, StreamContext}
 use Rattle.ctf_fields.specs.declared.error.FieldError.{FieldError}
 use Rattle.ctf_fields.specs.declared.field.Field.{Field}
@@ -15,8 +18,8 @@ use Rattle.read_plan.specs.declared.header.HeaderPlan.{HeaderPlan}
 use Rattle.trace_types.specs.declared.cause.Cause.{Cause}
 use Rattle.packet_decoder.specs.declared.events.EventHead.{EventHead}
 use Rattle.packet_decoder.specs.declared.times.Timestamp.{Timestamp}
-use Rattle.packet_decoder.specs.EventReaders.{IsHeadReadAs, PlanFits}
-use Rattle.packet_decoder.specs.Events.{PacketModel, as_result, cause_of, event_body, event_by, event_fields, event_head, event_of, from_of, head_by, scope_at}
+use Rattle.packet_decoder.specs.EventReaders.{HeadToldAs, IsHeadReadAs, NamedAs, PlanFits, is_bare}
+use Rattle.packet_decoder.specs.Events.{PacketModel, as_result, cause_of, event_at, event_body, event_by, event_fields, event_head, event_of, from_of, head_by, scope_at}
 use Rattle.packet_decoder.specs.PacketHeads.{and_then}
 use Rattle.packet_decoder.specs.Times.{timestamp_in}
 use Rattle.packet_decoder.specs.Values.{id_in, number_named}
@@ -96,6 +99,36 @@ head_planned w s plan told to at event parts stamp fits answer found stamped = b
           ap (λ h. and_then (scope_at w s h at) next) is ∙ ap (λ r. and_then r next) reads.1 ∙ ap (head_by w (Some f) to) (ap (λ id. event_by w.meta w.stream (id_in id)) (sym reads.2) ∙ sym found),
           record { at = refl; event = refl; parts = refl; timestamp = stamped ∙ ap (timestamp_in w.meta.table) reads.3; header = inr fits.2 },
         )
+
+-- the event that an id finds is declared with its parts
+event_declared : (meta : TraceMetaModel) (stream : ℕ) (id : Option ℕ) (event : ℕ) (parts : EventParts) → event_by meta stream id ≡ Some (event, parts) → option_map (λ d. d.1) (slice_get meta.declared.events event) ≡ Some parts
+event_declared meta stream None event parts is = absurd (cc)
+event_declared meta stream (Some id) event parts is = at (position (same_event (record { stream = stream; id = id })) (keys_of meta.declared.events)) is
+  where
+    found : (index : ℕ) (x : Option (EventId × EventParts)) → slice_get meta.declared.events index ≡ x → option_map {U = ℕ × EventParts} (λ e. (index, e.1)) x ≡ Some (event, parts) → option_map (λ d. d.1) (slice_get meta.declared.events event) ≡ Some parts
+    found index None there is = absurd (cc)
+    found index (Some e) there is =
+        let both : Path (ℕ × EventParts) (index, e.1) (event, parts) = cc in
+        ap (λ n. option_map (λ d. d.1) (slice_get meta.declared.events n)) (sym (ap (λ p. p.0) both)) ∙ ap (option_map (λ d. d.1)) there ∙ ap (λ p. Some p.1) both
+
+    at : (p : Option ℕ) → event_at meta p ≡ Some (event, parts) → option_map (λ d. d.1) (slice_get meta.declared.events event) ≡ Some parts
+    at None is = absurd (cc)
+    at (Some index) is = found index (slice_get meta.declared.events index) refl is
+
+-- the same of a header of whose event only the index is kept, and whether it is bare
+pub head_told : (w : PacketModel) (s : Scopes) (plan : HeaderPlan) (told : HeaderNumbers) (to at event : ℕ) (bare : Bool) (stamp : Option Timestamp)
+    → PlanFits w.meta.table w.parts.event_header (Some plan) → Ok (told, to) ≡ as_answer (header_read w.bytes w.end plan at) → NamedAs w (event_by w.meta w.stream (id_in told.id)) (Some (event, bare)) → stamp ≡ timestamp_in w.meta.table told.timestamp
+    → HeadToldAs w (event_head w s at) (Ok (record { at = to; event = event; is_bare = bare; timestamp = stamp }))
+head_told w s plan told to at event bare stamp fits answer named stamped =
+    let parts = named.0 in
+    let read = head_planned w s plan told to at event parts stamp fits answer (sym named.1) stamped in
+    let same = read.2.parts in (
+      read.0,
+      read.1,
+      record { at = read.2.at; event = read.2.event; parts = refl; timestamp = read.2.timestamp; header = read.2.header },
+      named.2 ∙ ap (is_bare w) same,
+      event_declared w.meta w.stream (id_in told.id) event parts named.1 ∙ ap Some same,
+    )
 
 -- a header that can't be read by its plan refuses the event
 pub head_fails : (w : PacketModel) (s : Scopes) (plan : HeaderPlan) (error : FieldError) (at : ℕ) → PlanFits w.meta.table w.parts.event_header (Some plan) → Err error ≡ as_answer (header_read w.bytes w.end plan at)

@@ -1,19 +1,25 @@
 -- A packet whose events are read one by one (the events are those of CTF 1.8, section 6; that they are read so is this project's own).
-use Rattle.std.specs.Prelude.{◌≡◌, ◌⊎◌, ℕ, ◌-◌, Bool, List, [], ◌∷◌, Option, None, Some, Result, Ok, Err, if◌then◌else◌}
+use Rattle.std.specs.Prelude.{◌≡◌, ◌⊎◌, ℕ, ◌-◌, Bool, List, [], ◌∷◌, Option, None, Some, Result, Ok, Err, if◌then◌else◌, ◌&&◌, is_none, option_map, slice_get}
 use Rattle.std.specs.Option.{option_and_then}
 use Rattle.ctf_fields.specs.declared.raw.RawEvent.{RawEvent}
 use Rattle.ctf_fields.specs.declared.field.Field.{Field}
 use Rattle.ctf_fields.specs.Fields.{Scopes}
 use Rattle.type_table.specs.Table.{Table}
-use Rattle.read_plan.specs.FixedSizes.{AreSkips, skip_at}
+use Rattle.read_plan.specs.FixedSizes.{skip_at}
 use Rattle.read_plan.specs.Headers.{IsPlanFor, IsReadablePlan}
 use Rattle.read_plan.specs.Headers.{header_plan as plan_of}
 use Rattle.read_plan.specs.Lone.{IsLone}
 use Rattle.read_plan.specs.declared.header.HeaderPlan.{HeaderPlan}
-use Rattle.packet_decoder.specs.Events.{PacketModel, events_from}
+use Rattle.packet_decoder.specs.Events.{PacketModel, event_by, events_from}
 use Rattle.packet_decoder.specs.PacketHeads.{and_then}
 use Rattle.packet_decoder.specs.declared.events.Cursor.{Cursor}
 use Rattle.packet_decoder.specs.declared.events.EventHead.{EventHead}
+use Rattle.packet_decoder.specs.declared.events.LastEvent.{LastEvent}
+use Rattle.packet_decoder.specs.declared.events.ToldHead.{ToldHead}
+use Rattle.packet_decoder.specs.declared.passing.Seen.{Seen}
+use Rattle.packet_decoder.specs.Times.{time_after}
+use Rattle.type_table.specs.TraceMetas.{TraceMetaModel}
+use Rattle.type_table.specs.declared.declared.EventParts.{EventParts}
 use Rattle.packet_decoder.specs.declared.failure.Failure.{Failure}
 use Rattle.packet_decoder.specs.declared.failure.Failure.TheVariants as failure
 use Rattle.trace_types.specs.declared.cause.Cause.{Cause}
@@ -84,3 +90,59 @@ abbrev pub HeadReadAs : Table → Result EventHead Cause → Result EventHead Fa
 HeadReadAs t answer (Ok head) = (whole : EventHead) × (answer ≡ Ok whole) × IsHeadReadAs t whole head
 HeadReadAs t answer (Err (failure.Refused cause)) = answer ≡ Err cause
 HeadReadAs t answer (Err failure.OutOfMemory) = Unit {0}
+
+-- ---- events that are passed over
+
+-- nothing stands behind the headers of events with these parts
+abbrev pub is_bare : PacketModel → EventParts → Bool
+is_bare w parts = is_none w.parts.event_context && is_none parts.context && is_none parts.fields
+
+-- a call answers an event's index, and whether nothing stands behind its headers
+abbrev pub NamedAs : PacketModel → Option (ℕ × EventParts) → Option (ℕ × Bool) → Type 0
+NamedAs w answer (Some r) = (parts : EventParts) × (answer ≡ Some (r.0, parts)) × (r.1 ≡ is_bare w parts)
+NamedAs w answer None = answer ≡ None
+
+-- what a header tells whose fields aren't kept, of an event with these parts
+abbrev pub unkept : ToldHead → EventParts → EventHead
+unkept head parts = record { header = None; at = head.at; event = head.event; parts = parts; timestamp = head.timestamp }
+
+-- an event is declared, and what is known of its parts is so
+abbrev pub IsDeclared : PacketModel → ToldHead → Type 0
+IsDeclared w head = (parts : EventParts) × (option_map (λ d. d.1) (slice_get w.meta.declared.events head.event) ≡ Some parts) × (head.is_bare ≡ is_bare w parts)
+
+-- a call tells so what a header tells, or refuses as it is refused
+abbrev pub HeadToldAs : PacketModel → Result EventHead Cause → Result ToldHead Failure → Type 0
+HeadToldAs w answer (Ok head) = (whole : EventHead) × (answer ≡ Ok whole) × IsHeadReadAs w.meta.table whole (unkept head whole.parts) × (head.is_bare ≡ is_bare w whole.parts) × (option_map (λ d. d.1) (slice_get w.meta.declared.events head.event) ≡ Some whole.parts)
+HeadToldAs w answer (Err (failure.Refused cause)) = answer ≡ Err cause
+HeadToldAs w answer (Err failure.OutOfMemory) = Unit {0}
+
+-- an event that was looked up before is what its id finds
+abbrev pub IsLast : PacketModel → Option LastEvent → Type 0
+IsLast w None = Unit {0}
+IsLast w (Some e) = NamedAs w (event_by w.meta w.stream (Some e.id)) (Some (e.event, e.is_bare))
+
+-- at this value of the clock, an event without a timestamp has a time
+abbrev pub IsTimed : TraceMetaModel → Option ℕ → Type 0
+IsTimed meta None = Unit {0}
+IsTimed meta (Some clock) = (time : ℕ) × (time_after meta None clock ≡ Ok (clock, time))
+
+-- what was found out of the events before holds of a packet
+abbrev pub IsSeen : PacketModel → Seen → Type 0
+IsSeen w seen = IsLast w seen.last × IsTimed w.meta seen.timed
+
+-- a call answers the clock's value and not the time, or refuses as these are refused
+abbrev pub ClockAs : Result (ℕ × ℕ) Cause → Result ℕ Cause → Type 0
+ClockAs answer (Ok clock) = (time : ℕ) × (answer ≡ Ok (clock, time))
+ClockAs answer (Err cause) = answer ≡ Err cause
+
+-- a call answers the bit after a field and not the field, or refuses as it is refused
+abbrev pub EndsAs : Result (Option Field × ℕ) Cause → Result ℕ Failure → Type 0
+EndsAs answer (Ok end) = (whole : Option Field) × (answer ≡ Ok (whole, end))
+EndsAs answer (Err (failure.Refused cause)) = answer ≡ Err cause
+EndsAs answer (Err failure.OutOfMemory) = Unit {0}
+
+-- a call goes on behind an event that can be read, or refuses as it is refused
+abbrev pub EventPassedAs : Result (RawEvent × Cursor) Cause → Cursor → Result (Unit {0}) Failure → Type 0
+EventPassedAs answer next (Ok done) = (whole : RawEvent) × (answer ≡ Ok (whole, next))
+EventPassedAs answer next (Err (failure.Refused cause)) = answer ≡ Err cause
+EventPassedAs answer next (Err failure.OutOfMemory) = Unit {0}

@@ -2,7 +2,7 @@
 ghost use Rattle.std.specs.Prelude.{◌≡◌, ◌≤◌, ◌<◌, ◌%◌, ◌^◌, ◌++◌, None, Some, option_map, slice_get, IfOk, OnOk, IfSome, [], ◌∷◌};
 ghost use Rattle.std.specs.Option.{option_copied};
 ghost use Rattle.packet_decoder.specs.Events.{cleared, event, event_body, event_fields, event_by, event_head, failure_of, field_or_none, scope_at};
-ghost use Rattle.packet_decoder.specs.EventReaders.{EventReadAs, FieldsReadAs, HeadReadAs, PlanFits};
+ghost use Rattle.packet_decoder.specs.EventReaders.{EventReadAs, FieldsReadAs, HeadReadAs, HeadToldAs, IsLast, NamedAs, PlanFits, is_bare};
 ghost use Rattle.packet_decoder.specs.PacketHeads.{Answers};
 ghost use Rattle.ctf_fields.specs.Fields.{Scopes};
 ghost use Rattle.read_plan.specs.FixedSizes.{AreSkips, FieldsTake, skip_at};
@@ -60,6 +60,24 @@ pub struct EventHead {
     pub timestamp: Option<Timestamp>,
 }
 
+/// The same of a header whose fields aren't kept. Of the types of the event's scopes it tells only whether there are none, nor one
+/// of the stream's context.
+#[derive(Clone, Copy, Debug)]
+pub struct ToldHead {
+    pub at: u64,
+    pub event: u32,
+    pub is_bare: bool,
+    pub timestamp: Option<Timestamp>,
+}
+
+/// The event that was looked up last, and the id that it was looked up by.
+#[derive(Clone, Copy, Debug)]
+pub struct LastEvent {
+    pub id: u64,
+    pub event: u32,
+    pub is_bare: bool,
+}
+
 // The field of a scope, and the bit after it.
 fn scope_at(
     alloc: Global,
@@ -83,6 +101,7 @@ fn scope_at(
 }
 
 // Why an event can't be read of which a field can't be.
+#[inline(always)]
 fn failure_of(error: FieldError) -> Failure
     ensures { result ≡ failure_of error }
 {
@@ -102,6 +121,37 @@ fn event_by(meta: &TraceMeta, stream: u64, id: Option<u64>) -> Option<(u32, Even
     let index = meta.find_event(stream, id?)?;
     let (_, parts) = meta.event(index)?;
     Some((index, parts))
+}
+
+// Whether nothing stands behind the headers of events with these parts.
+fn is_bare(packet: &Packet<'_>, parts: EventParts) -> bool
+    ensures { result ≡ is_bare packet.now parts }
+{
+    packet.parts.event_context.is_none() && parts.context.is_none() && parts.fields.is_none()
+}
+
+// The index of the event of an id, and whether nothing stands behind its headers. It is looked up only where the id isn't that of the
+// last look-up.
+#[inline(always)]
+fn event_named(
+    packet: &Packet<'_>,
+    last: &mut Option<LastEvent>,
+    id: Option<u64>,
+) -> Option<(u32, bool)>
+    requires { IsLast packet.now last.old }
+    ensures found { NamedAs packet.now (event_by packet.now.meta packet.now.stream id) result }
+    ensures last { IsLast packet.now last.new }
+{
+    let id = id?;
+    if let Some(known) = *last {
+        if known.id == id {
+            return Some((known.event, known.is_bare));
+        }
+    }
+    let (event, parts) = event_by(packet.meta, packet.stream, Some(id))?;
+    let is_bare = is_bare(packet, parts);
+    *last = Some(LastEvent { id, event, is_bare });
+    Some((event, is_bare))
 }
 
 // The header, what event it names, and its timestamp.
@@ -143,7 +193,40 @@ fn event_head(
     })
 }
 
-// The same of a header that is read by a plan, which keeps no field of it.
+/// What a header tells that is read by a plan, which keeps no field of it.
+#[inline(always)]
+#[tactic(auto, unfolding(crate::specs::Events::event_head))]
+pub fn told_head(
+    packet: &Packet<'_>,
+    plan: &HeaderPlan,
+    last: &mut Option<LastEvent>,
+    at: u64,
+) -> Result<ToldHead, Failure>
+    requires at { at ≤ 2 ^ 63 }
+    requires fits { PlanFits packet.now.meta.table packet.now.parts.event_header (Some plan.now) }
+    requires last { IsLast packet.now last.old }
+    ensures answers { (scopes : Scopes) → HeadToldAs packet.now (event_head packet.now scopes at) result }
+    ensures forward { IfOk result (λ h. (at ≤ h.at) × (h.at ≤ 2 ^ 63)) }
+    ensures timestamp { IfOk result (λ h. IfSome h.timestamp (λ s. (1 ≤ s.size) × (s.size ≤ 64))) }
+    ensures last { IsLast packet.now last.new }
+{
+    let (told, at) = match plan.read(packet.bits, at) {
+        Ok(read) => read,
+        Err(error) => return Err(failure_of(error)),
+    };
+    let timestamp = timestamp_in(packet.meta.table(), told.timestamp);
+    let Some((event, is_bare)) = event_named(packet, last, id_in(told.id)) else {
+        return Err(Failure::Refused(Cause::UnknownEvent));
+    };
+    Ok(ToldHead {
+        at,
+        event,
+        is_bare,
+        timestamp,
+    })
+}
+
+// The same of a header that is read by a plan, with the types of the event's scopes.
 #[tactic(auto, unfolding(crate::specs::Events::event_head))]
 fn planned_head(packet: &Packet<'_>, plan: &HeaderPlan, at: u64) -> Result<EventHead, Failure>
     requires at { at ≤ 2 ^ 63 }
@@ -257,9 +340,9 @@ fn event_fields(
     fields_at(alloc, packet, scopes, scratch, parts.fields, skip, at)
 }
 
-// What stands after an event's header: the stream's context for events, and the event's own.
+/// What stands after an event's header: the stream's context for events, and the event's own.
 #[tactic(auto, unfolding(crate::specs::Events::event_body))]
-fn event_body(
+pub fn event_body(
     alloc: Global,
     packet: &Packet<'_>,
     scopes: &mut Scopes,
@@ -286,8 +369,8 @@ fn event_body(
     event_fields(alloc, packet, scopes, scratch, parts, skip, at)
 }
 
-// No scope of an event is read. The memory of the header is used again.
-fn clear(scopes: &mut Scopes, scratch: &mut Scratch)
+/// No scope of an event is read. The memory of the header is used again.
+pub fn clear(scopes: &mut Scopes, scratch: &mut Scratch)
     ensures { scopes.new ≡ cleared scopes.old }
 {
     if let Some(header) = scopes.event_header.take() {
@@ -296,6 +379,17 @@ fn clear(scopes: &mut Scopes, scratch: &mut Scratch)
     scopes.stream_context = None;
     scopes.event_context = None;
     scopes.event_fields = None;
+}
+
+/// Takes the memory of an event's fields that are no longer needed.
+pub fn recycle_fields(scratch: &mut Scratch, fields: Field) {
+    // the structure of an event without fields has no memory, and many of them would fill the list of what is kept
+    if let Field::Struct(members) = &fields {
+        if members.is_empty() {
+            return;
+        }
+    }
+    scratch.recycle(fields);
 }
 
 fn field_or_none(alloc: Global, field: Option<Field>) -> Field
@@ -307,8 +401,8 @@ fn field_or_none(alloc: Global, field: Option<Field>) -> Field
     }
 }
 
-// How many bits of an event may be passed over.
-fn skip_at(skips: &[Option<u64>], event: u32) -> Option<u64>
+/// How many bits of an event may be passed over.
+pub fn skip_at(skips: &[Option<u64>], event: u32) -> Option<u64>
     ensures { result ≡ skip_at skips.now event }
 {
     match skips.get(event as usize) {

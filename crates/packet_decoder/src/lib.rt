@@ -6,6 +6,7 @@ mod decoding;
 mod events;
 mod failure;
 mod packet_head;
+mod passing;
 mod piece;
 mod reader;
 mod times;

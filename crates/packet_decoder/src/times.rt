@@ -22,6 +22,7 @@ pub struct Timestamp {
 }
 
 /// The timestamp that a number is, with the index of its type.
+#[inline(always)]
 pub fn timestamp_in(table: &Table, number: Option<(i128, u32)>) -> Option<Timestamp>
     ensures is { result ≡ timestamp_in table.now number }
     ensures sized { IfSome result (λ s. (1 ≤ s.size) × (s.size ≤ 64)) }

@@ -60,6 +60,7 @@ fn is_byte(byte: u8, field: &Field) -> bool
 }
 
 /// An id, 0 where none is declared.
+#[inline(always)]
 pub fn id_in(number: Option<(i128, u32)>) -> Option<u64>
     ensures { result ≡ id_in number }
 {
