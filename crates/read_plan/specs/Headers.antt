@@ -39,6 +39,7 @@ with_number n z before = record {
   tag = if n.is_tag then Some z else before.tag;
 }
 
+-- what one number adds: nothing is read where its bits run out
 abbrev pub number_by : HeaderNumber → HeaderNumbers → Option (ℤ × ℕ) → Reads HeaderNumbers
 number_by n before None = Fails ShortContent
 number_by n before (Some r) = Got (with_number n r.0 before) r.1
@@ -61,10 +62,12 @@ abbrev pub option_read : List ℕ → ℕ → List HeaderOption → ℤ → Head
 option_read bytes end [] tag before at = Fails NoVariant
 option_read bytes end (o ∷ os) tag before at = if int_le o.low tag && int_le tag o.high then row_read bytes end o.row before at else option_read bytes end os tag before at
 
+-- the structure that the tag chooses; there is none without a tag
 abbrev pub option_by : List ℕ → ℕ → List HeaderOption → Option ℤ → HeaderNumbers → ℕ → Reads HeaderNumbers
 option_by bytes end os None before at = Fails NoVariant
 option_by bytes end os (Some tag) before at = option_read bytes end os tag before at
 
+-- what stands behind the first numbers: nothing, or the structure that the tag chooses
 abbrev pub behind_row : List ℕ → ℕ → Option (List HeaderOption) → HeaderNumbers → ℕ → Reads HeaderNumbers
 behind_row bytes end None before at = Got before at
 behind_row bytes end (Some os) before at = option_by bytes end os before.tag before at
@@ -92,6 +95,7 @@ abbrev pub is_tag : Table → Option ℕ → ℕ → Bool
 is_tag t None name = false
 is_tag t (Some tag) name = same t.names tag name
 
+-- a field that is a number: how it lies, and what it is called
 abbrev pub header_number : Table → Option ℕ → FieldMeta → Integer → HeaderNumber
 header_number t tag f i = record { integer = i; ty = f.ty; is_id = is_id t f.name; is_timestamp = is_timestamp t f.name; is_tag = is_tag t tag f.name }
 
@@ -119,11 +123,13 @@ abbrev pub option_of : Table → LabelMeta → Option FieldMeta → Option (List
 option_of t label None = Some []
 option_of t label (Some f) = if is_id t f.name || is_timestamp t f.name then None else option_map (λ row. record { low = label.low; high = label.high; row = row } ∷ []) (row_by t (slice_get t.types f.ty))
 
+-- options before others; none where either has no plan
 abbrev pub both : Option (List HeaderOption) → Option (List HeaderOption) → Option (List HeaderOption)
 both None rest = None
 both (Some os) None = None
 both (Some os) (Some rest) = Some (os ++ rest)
 
+-- what the labels of a tag's enumeration choose, one after the other
 abbrev pub options_of : Table → List FieldMeta → List LabelMeta → Option (List HeaderOption)
 options_of t fs [] = Some []
 options_of t fs (label ∷ labels) = both (option_of t label (first_named t.names label.name fs)) (options_of t fs labels)
@@ -137,14 +143,17 @@ tag_type (n ∷ ns) = or_else (tag_type ns) (if n.is_tag then Some n.ty else Non
 abbrev pub planned_options : Table → ℕ → List HeaderNumber → List FieldMeta → List LabelMeta → Option HeaderPlan
 planned_options t align ns fs labels = if nat_le (length fs) MAX_PLANNED && nat_le (length labels) MAX_PLANNED then option_map (λ os. record { first = record { align = align; numbers = ns }; options = Some os }) (options_of t fs labels) else None
 
+-- by the type of the tag, if a number before the variant is it: its labels choose
 abbrev pub planned_tag : Table → ℕ → List HeaderNumber → List FieldMeta → Option ℕ → Option HeaderPlan
 planned_tag t align ns fs None = None
 planned_tag t align ns fs (Some ty) = planned_options t align ns fs (labels_in (slice_get t.types ty))
 
+-- by the variant's tag: a plan reads one whose path is a single name, which names no scope
 abbrev pub planned_variant : Table → ℕ → List FieldMeta → Option ScopeName → List ℕ → List FieldMeta → Option HeaderPlan
 planned_variant t align fs None (tag ∷ []) options = planned_tag t align (leading_numbers t (Some tag) fs) options (tag_type (leading_numbers t (Some tag) fs))
 planned_variant t align fs _ _ options = None
 
+-- by the field behind the numbers: a variant that isn't itself called as what is looked for
 abbrev pub planned_last : Table → ℕ → List FieldMeta → ℕ → Option TypeMeta → Option HeaderPlan
 planned_last t align fs name (Some (meta.Variant tag options)) = if is_id t name || is_timestamp t name then None else planned_variant t align fs tag.scope tag.words options
 planned_last t align fs name _ = None
@@ -155,6 +164,7 @@ planned_behind t align fs [] = Some (record { first = record { align = align; nu
 planned_behind t align fs (last ∷ []) = planned_last t align fs last.name (slice_get t.types last.ty)
 planned_behind t align fs _ = None
 
+-- by the type of the header: a structure of a few fields
 abbrev pub planned_by : Table → Option TypeMeta → Option HeaderPlan
 planned_by t (Some (meta.Struct align fs)) = if nat_le (length fs) MAX_PLANNED then planned_behind t align fs (behind_numbers t fs) else None
 planned_by t _ = None
@@ -180,15 +190,18 @@ IsPlanFor t ty plan = (bytes : List ℕ) (end : ℕ) (scopes : Scopes) (at : ℕ
 abbrev pub AreReadable : List HeaderNumber → Type 0
 AreReadable ns = AllByRecursion (λ n. IsReadable n.integer) ns
 
+-- a structure whose alignment divides 65536, of numbers that can be read
 pub record IsReadableRow (row : NumberRow) : Type 0 where
   pub align : 1 ≤ row.align
   pub within : 65536 % row.align ≡ 0
   pub numbers : AreReadable row.numbers
 
+-- structures that can be read, if there is a variant
 abbrev pub AreReadableOptions : Option (List HeaderOption) → Type 0
 AreReadableOptions None = Unit {0}
 AreReadableOptions (Some os) = AllByRecursion (λ o. IsReadableRow o.row) os
 
+-- a plan that can be read by: its first structure, and those that the tag chooses
 pub record IsReadablePlan (plan : HeaderPlan) : Type 0 where
   pub first : IsReadableRow plan.first
   pub options : AreReadableOptions plan.options

@@ -11,6 +11,7 @@ use Rattle.ctf_fields.specs.Fields.{Scopes}
 use Rattle.ctf_fields.specs.Reading.{scope_read}
 use Rattle.ctf_fields.specs.declared.field.Field.{Field}
 
+-- a field path begins at an event's header
 abbrev pub is_header : Option ScopeName → Bool
 is_header (Some EventHeader) = true
 is_header _ = false
