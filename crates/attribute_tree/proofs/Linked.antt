@@ -1,6 +1,6 @@
 -- The links of nodes, when one more node is made.
-use Rattle.std.proofs.Common.{◌≡◌, ℕ, zero, suc, ◌+◌, ◌<◌, ◌≤◌, ◌==◌, Bool, true, false, if◌then◌else◌, List, [], ◌∷◌, ◌++◌, map, length, Option, Some, None, slice_get, slice_set, rules, refl, sym, ap, ap₂, ◌∙◌, subst, arith, append-nil}
-use Rattle.std.specs.Prelude.{unwrap_or, option_map, IfSome, ◌||◌}
+use Rattle.std.proofs.Common.{◌≡◌, ℕ, zero, suc, ◌+◌, ◌<◌, ◌≤◌, ◌==◌, Bool, true, false, if◌then◌else◌, List, [], ◌∷◌, ◌++◌, map, length, Option, Some, None, get_or, slice_get, slice_set, rules, refl, sym, ap, ap₂, ◌∙◌, subst, arith, append-nil}
+use Rattle.std.specs.Prelude.{unwrap_or, option_map, ◌||◌}
 use Rattle.std.proofs.lemmas.Option.{slice_get-map}
 use Rattle.std.specs.List.{AllByRecursion, IsDistinct, list_any}
 use Rattle.std.proofs.lemmas.Bool.{eq-eqb, ne_eqb}
@@ -288,16 +288,16 @@ pub rest_siblings : (nodes : List Prefix) (n : ℕ) (cs : List ℕ) → siblings
 rest_siblings nodes n [] h = refl
 rest_siblings nodes n (b ∷ bs) h = ap (λ l. b ∷ l) (walk_on 0 n nodes b bs b h (omega arith))
 
--- the next sibling of a node is the first of its later ones
-pub next_is : (k n : ℕ) (ps : List Prefix) (o : Option ℕ) → slice_get (nexts k ps) n ≡ Some o → first_of (siblings_at k n ps) ≡ o
-next_is k n [] o h = absurd (cc)
-next_is k zero (p ∷ ps) o h = cc
-next_is k (suc n) (p ∷ ps) o h = next_is (suc k) n ps o h
+-- the links as they are read
+first_at : (nodes ps : List Prefix) (u : ℕ) → get_or (map (λ p. first_of (places (is_child p) 0 nodes)) ps) u None ≡ first_of (children_at nodes (slice_get ps u))
+first_at nodes [] u = refl
+first_at nodes (p ∷ ps) zero = refl
+first_at nodes (p ∷ ps) (suc u) = first_at nodes ps u
 
-no_siblings : (k n : ℕ) (ps : List Prefix) → slice_get (nexts k ps) n ≡ None → siblings_at k n ps ≡ []
-no_siblings k n [] h = refl
-no_siblings k zero (p ∷ ps) h = absurd (cc)
-no_siblings k (suc n) (p ∷ ps) h = no_siblings (suc k) n ps h
+next_at : (k : ℕ) (ps : List Prefix) (u : ℕ) → get_or (nexts k ps) u None ≡ first_of (siblings_at k u ps)
+next_at k [] u = refl
+next_at k (p ∷ ps) zero = refl
+next_at k (p ∷ ps) (suc u) = next_at (suc k) ps u
 
 length_map : {X : Type 0} (f : Prefix → X) (ps : List Prefix) → length (map f ps) ≡ length ps
 length_map f [] = refl
@@ -308,28 +308,10 @@ length_nexts k [] = refl
 length_nexts k (p ∷ ps) = ap suc (length_nexts (suc k) ps)
 
 -- ---- all links, once a node is made
-places_high : (test : Prefix → Bool) (k : ℕ) (ps : List Prefix) → AllByRecursion (λ n. n < k + length ps) (places test k ps)
-places_high test k [] = tt
-places_high test k (p ∷ ps) = by (test p) (all_weaker (λ n. n < suc k + length ps) (λ n. n < k + suc (length ps)) _ (λ n h. omega (arith, h)) (places_high test (suc k) ps))
-  where
-    by : (b : Bool) → AllByRecursion (λ n. n < k + suc (length ps)) (places test (suc k) ps) → AllByRecursion (λ n. n < k + suc (length ps)) (if b then k ∷ places test (suc k) ps else places test (suc k) ps)
-    by true h = (omega arith, h)
-    by false h = h
-
-last_high : (o : Option ℕ) (ns : List ℕ) (k l : ℕ) → ((n : ℕ) → o ≡ Some n → n < k) → AllByRecursion (λ n. n < k) ns → last_from o ns ≡ Some l → l < k
-last_high o [] k l h g e = h l e
-last_high o (n ∷ ns) k l h g e = last_high (Some n) ns k l (λ m f. let same : n ≡ m = cc in omega (arith, same, g.0)) g.1 e
-
 map_at : {X : Type 0} (f : Prefix → X) (nodes : List Prefix) (u : ℕ) (o : X) → slice_get (map f nodes) u ≡ Some o → (p : Prefix) → slice_get nodes u ≡ Some p → f p ≡ o
 map_at f nodes u o h p s = let both : Some (f p) ≡ Some o = sym (ap (option_map f) s) ∙ (sym (slice_get-map f nodes u) ∙ h) in cc
 
 module _ {f l n : List (Option ℕ)} (nodes : List Prefix) (links : AreLinked nodes f l n) where
-  pub last_within : (u : ℕ) (r : Prefix) (o : Option ℕ) → slice_get nodes u ≡ Some r → slice_get l u ≡ Some o → (k : ℕ) → o ≡ Some k → k < length nodes
-  last_within u r o s h k e =
-      let is : last_from None (places (is_child r) 0 nodes) ≡ o = map_at (λ p. last_from None (places (is_child p) 0 nodes)) nodes u o (ap (λ x. slice_get x u) (sym links.last) ∙ h) r s in
-      let low : k < 0 + length nodes = last_high None (places (is_child r) 0 nodes) (0 + length nodes) k (λ m g. absurd (cc)) (places_high (is_child r) 0 nodes) (is ∙ e) in
-      omega (arith, low)
-
   pub linked_push : (q r : Prefix) (u : ℕ) (a b : Option ℕ) → parent_of q ≡ Some r → slice_get nodes u ≡ Some r → list_any (same_prefix q) nodes ≡ false → IsDistinct same_prefix (nodes ++ q ∷ [])
       → slice_get f u ≡ Some a → slice_get l u ≡ Some b
       → AreLinked (nodes ++ q ∷ []) (slice_set f u (Some (unwrap_or a (length nodes))) ++ None ∷ []) (slice_set l u (Some (length nodes)) ++ None ∷ []) (with_next n b (length nodes) ++ None ∷ [])
@@ -344,16 +326,11 @@ module _ {f l n : List (Option ℕ)} (nodes : List Prefix) (links : AreLinked no
         held = held_more nodes q r u links.held parent stands;
       }
 
-  -- the links as they are read
-  pub first_child_is : (u : ℕ) (o : Option ℕ) → slice_get f u ≡ Some o → first_of (children_of nodes u) ≡ o
-  first_child_is u o h = by (slice_get nodes u) refl
-    where
-      by : (x : Option Prefix) → slice_get nodes u ≡ x → first_of (children_at nodes x) ≡ o
-      by None e = let none : slice_get (firsts nodes) u ≡ None = slice_get-map (λ p. first_of (places (is_child p) 0 nodes)) nodes u ∙ ap (option_map (λ p. first_of (places (is_child p) 0 nodes))) e in let some = ap (λ x. slice_get x u) (sym links.first) ∙ h in absurd (cc)
-      by (Some p) e = map_at (λ p. first_of (places (is_child p) 0 nodes)) nodes u o (ap (λ x. slice_get x u) (sym links.first) ∙ h) p e
+  pub first_link : (u : ℕ) → get_or f u None ≡ first_of (children_of nodes u)
+  first_link u = ap (λ x. get_or x u None) links.first ∙ first_at nodes nodes u
 
-  pub next_sibling_is : (u : ℕ) (o : Option ℕ) → slice_get n u ≡ Some o → first_of (siblings_at 0 u nodes) ≡ o
-  next_sibling_is u o h = next_is 0 u nodes o (ap (λ x. slice_get x u) (sym links.next) ∙ h)
+  pub next_link : (u : ℕ) → get_or n u None ≡ first_of (siblings_at 0 u nodes)
+  next_link u = ap (λ x. get_or x u None) links.next ∙ next_at 0 nodes u
 
   pub lengths : (length f ≡ length nodes) × (length l ≡ length nodes) × (length n ≡ length nodes)
   lengths = (
@@ -361,17 +338,6 @@ module _ {f l n : List (Option ℕ)} (nodes : List Prefix) (links : AreLinked no
     ap length links.last ∙ length_map (λ p. last_from None (places (is_child p) 0 nodes)) nodes,
     ap length links.next ∙ length_nexts 0 nodes,
   )
-
-  pub no_sibling_is : (u : ℕ) → slice_get n u ≡ None → siblings_at 0 u nodes ≡ []
-  no_sibling_is u h = no_siblings 0 u nodes (ap (λ x. slice_get x u) (sym links.next) ∙ h)
-
-pub if_some : (o : Option ℕ) (k : ℕ) → ((l : ℕ) → o ≡ Some l → l < k) → IfSome o (λ l. l < k)
-if_some None k h = tt
-if_some (Some l) k h = h l refl
-
-pub at_end : (xs : List Prefix) (y : Prefix) → slice_get (xs ++ y ∷ []) (length xs) ≡ Some y
-at_end [] y = refl
-at_end (x ∷ xs) y = at_end xs y
 
 pub with_new : (nodes : List Prefix) (q : Prefix) → list_any (same_prefix q) nodes ≡ false → with_node nodes q ≡ nodes ++ q ∷ []
 with_new nodes q h = rw h refl

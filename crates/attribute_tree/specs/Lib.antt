@@ -1,2 +1,5 @@
 pub mod Numbered
 pub mod Nodes
+pub mod Links
+pub mod Rows
+pub mod Fronts

@@ -7,6 +7,7 @@ use Rattle.attribute_tree.specs.declared.prefix.Prefix.{Prefix}
 use Rattle.attribute_tree.specs.declared.prefix.Prefix.TheVariants.{Root, Host, Cpus, Threads, Cpu, Thread, Leaf}
 use Rattle.attribute_tree.specs.contracts.prefix.PrefixPartialEq.TheImpl as prefix
 
+-- the comparison that fronts derive, which tells all of them apart
 abbrev pub same_prefix : Prefix → Prefix → Bool
 same_prefix = prefix.ghosts.eq
 
@@ -30,18 +31,21 @@ parent_of (Leaf (path.Thread host thread leaf)) = Some (Thread host thread)
 abbrev pub with_node : List Prefix → Prefix → List Prefix
 with_node nodes p = if list_any (same_prefix p) nodes then nodes else nodes ++ p ∷ []
 
+-- the nodes once each of these fronts has one
 abbrev pub with_nodes : List Prefix → List Prefix → List Prefix
 with_nodes nodes [] = nodes
 with_nodes nodes (p ∷ ps) = with_nodes (with_node nodes p) ps
 
--- the nodes of paths: the root, and then those that each path makes
+-- nodes, and then those that each path makes
 abbrev pub nodes_from : List Prefix → List AttributePath → List Prefix
 nodes_from nodes [] = nodes
 nodes_from nodes (p ∷ ps) = nodes_from (with_nodes nodes (prefixes_of p)) ps
 
+-- the nodes of paths: the root, and then those that each path makes
 abbrev pub nodes_of : List AttributePath → List Prefix
 nodes_of paths = nodes_from (Root ∷ []) paths
 
+-- whether there is a front and it is this one
 abbrev pub is_some_prefix : Option Prefix → Prefix → Bool
 is_some_prefix None p = false
 is_some_prefix (Some q) p = same_prefix q p
@@ -55,6 +59,7 @@ abbrev pub places : (Prefix → Bool) → ℕ → List Prefix → List ℕ
 places test k [] = []
 places test k (p ∷ ps) = if test p then k ∷ places test (suc k) ps else places test (suc k) ps
 
+-- the children of a front, in the order of their making, and of no front none
 abbrev pub children_at : List Prefix → Option Prefix → List ℕ
 children_at nodes None = []
 children_at nodes (Some p) = places (is_child p) 0 nodes
@@ -63,29 +68,34 @@ children_at nodes (Some p) = places (is_child p) 0 nodes
 abbrev pub children_of : List Prefix → ℕ → List ℕ
 children_of nodes n = children_at nodes (slice_get nodes n)
 
+-- the first of some numbers, if there is one
 abbrev pub first_of : List ℕ → Option ℕ
 first_of [] = None
 first_of (n ∷ ns) = Some n
 
+-- the last of some numbers, and where there is none what came before them
 abbrev pub last_from : Option ℕ → List ℕ → Option ℕ
 last_from o [] = o
 last_from o (n ∷ ns) = last_from (Some n) ns
 
--- whether the second front has the parent of the first
+-- whether a front has this parent
 abbrev pub is_sibling_by : Option Prefix → Prefix → Bool
 is_sibling_by None q = false
 is_sibling_by (Some r) q = is_child r q
 
+-- whether the second front has the parent of the first
 abbrev pub is_sibling : Prefix → Prefix → Bool
 is_sibling p q = is_sibling_by (parent_of p) q
 
--- the links of nodes: the first and the last child of each, and its next sibling
+-- the first child of each node
 abbrev pub firsts : List Prefix → List (Option ℕ)
 firsts nodes = map (λ p. first_of (places (is_child p) 0 nodes)) nodes
 
+-- the last child of each node
 abbrev pub lasts : List Prefix → List (Option ℕ)
 lasts nodes = map (λ p. last_from None (places (is_child p) 0 nodes)) nodes
 
+-- the next sibling of each node, where these nodes are numbered from k
 abbrev pub nexts : ℕ → List Prefix → List (Option ℕ)
 nexts k [] = []
 nexts k (p ∷ ps) = first_of (places (is_sibling p) (suc k) ps) ∷ nexts (suc k) ps
@@ -106,11 +116,12 @@ abbrev pub with_next : List (Option ℕ) → Option ℕ → ℕ → List (Option
 with_next ns None m = ns
 with_next ns (Some l) m = slice_set ns l (Some m)
 
--- a node's parent has a node, too
+-- a front has a node, or there is no such front
 abbrev pub IsHeld : List Prefix → Option Prefix → Type 0
 IsHeld nodes None = Unit {0}
 IsHeld nodes (Some r) = list_any (same_prefix r) nodes ≡ true
 
+-- each node's parent has a node, too
 abbrev pub AreHeld : List Prefix → Type 0
 AreHeld nodes = AllByRecursion (λ p. IsHeld nodes (parent_of p)) nodes
 
@@ -127,11 +138,7 @@ abbrev pub kept_nodes : List AttributePath → List Prefix
 kept_nodes [] = []
 kept_nodes (p ∷ ps) = nodes_of (p ∷ ps)
 
+-- the nodes with the root, where there was none
 abbrev pub rooted : List Prefix → List Prefix
 rooted [] = Root ∷ []
 rooted (p ∷ ps) = p ∷ ps
-
--- the nodes, and how many more there is room for
-pub record Tree : Type 0 where
-  pub nodes : List Prefix
-  pub room : ℕ

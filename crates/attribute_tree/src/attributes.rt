@@ -1,13 +1,15 @@
 //! Paths and their numbers, and the tree of their nodes.
 ghost use Rattle.std.specs.Prelude.{◌≡◌, ◌<◌, ◌≤◌, ◌↔◌, ◌++◌, ◌∷◌, [], Some, true, IsTrue, length, slice_get, OnOk, OnErr, IfOk, IfSome, IsOk};
 ghost use Rattle.attribute_tree.specs.Numbered.{number_among, IsNew};
-ghost use Rattle.attribute_tree.specs.Nodes.{children_of, nodes_of, prefixes_of, rooted, with_nodes};
-ghost use Rattle.attribute_tree.specs.declared.prefix.Prefix.TheVariants as prefixes;
+ghost use Rattle.attribute_tree.specs.Nodes.{children_of, first_of, kept_nodes, nodes_of, siblings_at};
 
 use crate::children::Children;
-use crate::nodes::Nodes;
+use crate::links::Links;
+use crate::nodes::owner_node;
+use crate::owner::Owner;
 use crate::prefix::Prefix;
-use indexmap::IndexSet;
+use crate::rows::{Row, number_of};
+use indexmap::IndexMap;
 use std::alloc::Global;
 use std::marker::Model;
 use trace_types::{OutOfMemory, Path};
@@ -15,25 +17,37 @@ use trace_types::{OutOfMemory, Path};
 // A path has a node for each of its four segments, and the first path makes the root, too.
 const NODES_A_PATH: usize = 5;
 
+// Of which two are of a host and of all its processors or threads.
+const GROUPS_A_PATH: usize = 2;
+
+// A place of a row has 32 bits, and 0 says that there is no number.
+const MOST_PATHS: usize = u32::MAX as usize;
+
 /// Paths that are numbered from 0 in the order in which they were added, and the tree of their
-/// nodes. Contracts see the list of paths, and whether there is room for one more.
+/// nodes. A row has the node of one processor or thread and the numbers of its paths, so that the
+/// second of them is found in memory that the first has brought near. Contracts see the list of
+/// paths, and whether there is room for one more.
 #[derive(Debug, Drop)]
 pub struct Attributes {
-    paths: IndexSet<Path>,
-    nodes: Nodes,
+    paths: Vec<Path>,
+    rows: IndexMap<Owner, Row>,
+    groups: IndexMap<Prefix, u32>,
+    links: Links,
 }
 
 impl Model for Attributes {
-    ghost use Rattle.std.specs.Prelude.{◌≡◌, ◌&&◌, nat_lt, nat_le};
-    ghost use Rattle.indexmap.specs.IndexSet.{spare};
+    ghost use Rattle.std.specs.Prelude.{◌-◌, ◌^◌, ◌&&◌, nat_lt, nat_le, vec_len, vec_capacity};
+    ghost use Rattle.indexmap.specs.IndexMap.{get, spare};
     ghost use Rattle.attribute_tree.specs.Numbered.{Numbered};
-    ghost use Rattle.attribute_tree.specs.Nodes.{kept_nodes};
+    ghost use Rattle.attribute_tree.specs.Nodes.{same_prefix};
+    ghost use Rattle.attribute_tree.specs.Rows.{same_owner};
+    ghost use Rattle.attribute_tree.specs.Fronts.{AreKept};
 
     ghost Value = { Numbered };
 
-    ghost view = { λ a. record { paths = a.paths.keys; has_room = nat_lt 0 (spare a.paths) && nat_le 5 a.nodes.room } };
+    ghost view = { λ a. record { paths = a.paths.items; has_room = nat_lt (vec_len a.paths) (2 ^ 32 - 1) && (nat_lt (vec_len a.paths) (vec_capacity a.paths) && (nat_lt 0 (spare a.rows) && (nat_le 2 (spare a.groups) && nat_le 5 a.links.room))) } };
 
-    ghost invariant = { λ a. a.nodes.nodes ≡ kept_nodes a.paths.keys };
+    ghost invariant = { λ a. AreKept a.paths.items (get same_owner a.rows) (get same_prefix a.groups) a.links };
 }
 
 impl Attributes {
@@ -42,18 +56,26 @@ impl Attributes {
         ensures { result.paths ≡ [] }
     {
         Attributes {
-            paths: IndexSet::new(alloc),
-            nodes: Nodes::new(alloc),
+            paths: Vec::new(alloc),
+            rows: IndexMap::new(alloc),
+            groups: IndexMap::new(alloc),
+            links: Links::new(alloc),
         }
     }
 
-    /// Makes room for one more path. The only error is lack of memory.
+    /// Makes room for one more path. The only error is lack of memory, which also comes where the
+    /// numbers of 32 bits would not do for the paths or their nodes.
     pub fn reserve(&mut self) -> Result<(), OutOfMemory>
         ensures paths { self.new.paths ≡ self.old.paths }
         ensures room { OnOk result (self.new.has_room ≡ true) }
         ensures succeeds { self.old.has_room ≡ true → IsOk result }
     {
-        self.nodes.reserve(NODES_A_PATH)?;
+        if self.paths.len() >= MOST_PATHS {
+            return Err(OutOfMemory);
+        }
+        self.links.reserve(NODES_A_PATH)?;
+        self.groups.reserve(GROUPS_A_PATH)?;
+        self.rows.reserve(1)?;
         self.paths.reserve(1)?;
         Ok(())
     }
@@ -67,9 +89,17 @@ impl Attributes {
         ensures err { OnErr result (self.new.paths ≡ self.old.paths) }
         ensures succeeds { self.old.has_room ≡ true → IsOk result }
     {
-        self.nodes.reserve(NODES_A_PATH)?;
-        let (number, _) = self.paths.insert_full(path)?;
-        add_nodes(&mut self.nodes, path);
+        self.reserve()?;
+        let number = self.paths.len();
+        let node = owner_node(
+            &mut self.rows,
+            &mut self.groups,
+            &mut self.links,
+            path,
+            number as u32,
+        );
+        self.links.add(node);
+        self.paths.push_reserved(path);
         Ok(number)
     }
 
@@ -78,7 +108,7 @@ impl Attributes {
         ensures number { result ≡ number_among self.now.paths path }
         ensures found { IfSome result (λ n. slice_get self.now.paths n ≡ Some path) }
     {
-        self.paths.get_index_of(&path)
+        number_of(&self.rows, path)
     }
 
     /// How many paths are held.
@@ -109,31 +139,20 @@ impl Attributes {
     pub fn children(&self, node: usize) -> Children<'_>
         ensures { result ≡ children_of (nodes_of self.now.paths) node }
     {
-        Children::new(&self.nodes, node)
+        Children::new(self, node)
     }
-}
 
-// Makes a node for each front of a path that has none yet, and the root where there is none.
-fn add_nodes(nodes: &mut Nodes, path: Path)
-    requires root { slice_get (rooted nodes.old.nodes) 0 ≡ Some prefixes.Root }
-    requires room { 5 ≤ nodes.old.room }
-    ensures { nodes.new.nodes ≡ with_nodes (rooted nodes.old.nodes) (prefixes_of path) }
-{
-    if nodes.is_empty() {
-        nodes.add_root();
+    /// The first child of a node.
+    pub(crate) fn first_child(&self, node: usize) -> Option<usize>
+        ensures { result ≡ first_of (children_of (kept_nodes self.now.paths) node) }
+    {
+        self.links.first_child(node)
     }
-    match path {
-        Path::Cpu { host, cpu, .. } => {
-            let above = nodes.add(0, Prefix::Host(host));
-            let above = nodes.add(above, Prefix::Cpus(host));
-            let above = nodes.add(above, Prefix::Cpu { host, cpu });
-            nodes.add(above, Prefix::Leaf(path));
-        }
-        Path::Thread { host, thread, .. } => {
-            let above = nodes.add(0, Prefix::Host(host));
-            let above = nodes.add(above, Prefix::Threads(host));
-            let above = nodes.add(above, Prefix::Thread { host, thread });
-            nodes.add(above, Prefix::Leaf(path));
-        }
+
+    /// The next sibling of a node.
+    pub(crate) fn next_sibling(&self, node: usize) -> Option<usize>
+        ensures { result ≡ first_of (siblings_at 0 node (kept_nodes self.now.paths)) }
+    {
+        self.links.next_sibling(node)
     }
 }

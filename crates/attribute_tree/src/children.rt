@@ -1,34 +1,34 @@
 //! The children of a node, one after the other.
 ghost use Rattle.std.specs.Prelude.{◌≡◌, ◌++◌, [], IfNone, option_to_list};
-ghost use Rattle.attribute_tree.specs.Nodes.{children_of};
+ghost use Rattle.attribute_tree.specs.Nodes.{children_of, kept_nodes};
 
-use crate::nodes::Nodes;
+use crate::attributes::Attributes;
 use std::marker::Model;
 
 /// The numbers of a node's children that are still to come. Contracts see the list of them.
 #[derive(Debug, Drop)]
 pub struct Children<'a> {
-    nodes: &'a Nodes,
+    attributes: &'a Attributes,
     next: Option<usize>,
 }
 
 impl<'a> Model for Children<'a> {
     ghost use Rattle.std.specs.Prelude.{ℕ, List};
-    ghost use Rattle.attribute_tree.specs.Nodes.{rest_from};
+    ghost use Rattle.attribute_tree.specs.Nodes.{kept_nodes, rest_from};
 
     ghost Value = { List ℕ };
 
-    ghost view = { λ c. rest_from c.nodes.now.nodes c.next };
+    ghost view = { λ c. rest_from (kept_nodes c.attributes.now.paths) c.next };
 }
 
 impl<'a> Children<'a> {
     /// The children of a node, in the order of their making. It takes no memory.
-    pub fn new(nodes: &'a Nodes, node: usize) -> Children<'a>
-        ensures { result ≡ children_of nodes.now.nodes node }
+    pub fn new(attributes: &'a Attributes, node: usize) -> Children<'a>
+        ensures { result ≡ children_of (kept_nodes attributes.now.paths) node }
     {
         Children {
-            nodes,
-            next: nodes.first_child(node),
+            attributes,
+            next: attributes.first_child(node),
         }
     }
 
@@ -38,7 +38,7 @@ impl<'a> Children<'a> {
         ensures none { IfNone result (self.old ≡ []) }
     {
         let child = self.next?;
-        self.next = self.nodes.next_sibling(child);
+        self.next = self.attributes.next_sibling(child);
         Some(child)
     }
 }

@@ -3,8 +3,11 @@
 
 mod attributes;
 mod children;
+mod links;
 mod nodes;
+mod owner;
 mod prefix;
+mod rows;
 
 pub use attributes::Attributes;
 pub use children::Children;

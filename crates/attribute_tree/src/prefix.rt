@@ -1,7 +1,8 @@
 //! The fronts of paths: the nodes of the tree of attributes.
 use trace_types::{Path, ThreadKey};
 
-/// The first so many segments of a path, from none to all four.
+/// The first so many segments of a path, from none to all four. Contracts speak of each of them; a
+/// run makes only those of hosts, and of all their processors and all their threads.
 #[derive(Clone, Copy, Debug, PartialEq, Eq, Hash)]
 pub enum Prefix {
     Root,
