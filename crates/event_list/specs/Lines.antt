@@ -82,6 +82,10 @@ words_of names m = decimal m.key ∷ decimal m.event.host ∷ decimal m.event.cp
 abbrev pub line_text : List (List ℕ) → Merged → List ℕ
 line_text names m = join_with_byte 32 (words_of names m) ++ 10 ∷ []
 
+-- what stands in an event's line before its fields: its key, host, processor and own time, and the word of its kind
+abbrev pub head_text : Merged → List ℕ
+head_text m = join_with_byte 32 (decimal m.key ∷ decimal m.event.host ∷ decimal m.event.cpu ∷ decimal m.event.time ∷ word_of (kind_of_event m.event.kind) ∷ [])
+
 abbrev pub first_line : List ℕ
 first_line = codes "hosttrace events 1\n"
 

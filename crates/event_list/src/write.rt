@@ -1,7 +1,7 @@
 //! Writing one line of an event list.
 ghost use Rattle.std.specs.Prelude.{◌≡◌, ◌++◌, ◌∷◌, [], OnErr, OnOk};
 ghost use Rattle.std.specs.Fmt.{decimal};
-ghost use Rattle.event_list.specs.Lines.{AreBytes, field_words, kind_words, line_text};
+ghost use Rattle.event_list.specs.Lines.{AreBytes, field_words, head_text, line_text};
 ghost use Rattle.event_list.specs.Written.{texts_in};
 ghost use Rattle.std.specs.List.{AllByRecursion};
 ghost use Rattle.event_list.specs.Spaced.{spaced};
@@ -32,17 +32,25 @@ pub fn write_line(event: &Merged, names: &[Text], out: &mut Vec<u8>) -> Result<(
 
 /// Appends the line of an event. `names` are those of its host. The only error is lack of memory, after which a front
 /// of the line may be left.
-#[tactic(auto, using(crate::proofs::Spaced::line_is))]
 pub fn append_line(event: &Merged, names: &[Text], out: &mut Vec<u8>) -> Result<(), OutOfMemory>
     ensures text { OnOk result (out.new.items ≡ out.old.items ++ line_text names.now event.now) }
     ensures bytes { OnOk result (AllByRecursion AreBytes (texts_in names.now event.now.event.kind)) }
 {
+    append_head(event, out)?;
+    write_fields(&event.event.kind, names, out)?;
+    out.push(b'\n')?;
+    Ok(())
+}
+
+/// Appends what stands in an event's line before its fields, without the space that follows. The only error is lack of
+/// memory, after which a front of it may be left.
+pub fn append_head(event: &Merged, out: &mut Vec<u8>) -> Result<(), OutOfMemory>
+    ensures { OnOk result (out.new.items ≡ out.old.items ++ head_text event.now) }
+{
     let mut digits = Buffer::new();
     out.extend_from_slice(digits.format(event.key).as_bytes())?;
     write_line_head(&event.event, out)?;
-    write_kind(&event.event.kind, names, out)?;
-    out.push(b'\n')?;
-    Ok(())
+    write_word(event.event.kind.kind().word(), out)
 }
 
 // Appends an event's host, its processor and its own time, each with a space before it.
@@ -52,15 +60,6 @@ fn write_line_head(event: &Event, out: &mut Vec<u8>) -> Result<(), OutOfMemory>
     write_number(event.host, out)?;
     write_number(event.cpu, out)?;
     write_number(event.time, out)
-}
-
-// Appends the words of an event, each with a space before it.
-fn write_kind(event: &KernelEvent, names: &[Text], out: &mut Vec<u8>) -> Result<(), OutOfMemory>
-    ensures text { OnOk result (out.new.items ≡ out.old.items ++ spaced (kind_words names.now event.now)) }
-    ensures bytes { OnOk result (AllByRecursion AreBytes (texts_in names.now event.now)) }
-{
-    write_word(event.kind().word(), out)?;
-    write_fields(event, names, out)
 }
 
 // Appends an event's fields, each with a space before it.

@@ -3,6 +3,7 @@ pub mod QuestionLines
 pub mod Refused
 pub mod Written
 pub mod EventLines
+pub mod LongLines
 pub mod OneOrder
 pub mod Complete
 pub mod Fails

@@ -8,6 +8,7 @@ mod folders;
 mod hosts;
 mod inputs;
 mod laws;
+mod long_lines;
 mod making;
 mod outputs;
 mod paths;

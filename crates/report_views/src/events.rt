@@ -1,14 +1,15 @@
 //! The text of merged events, batch by batch. A batch's stretches of lines are written side by side.
-ghost use Rattle.std.specs.Prelude.{◌≡◌, ◌⊎◌, ◌+◌, ◌≤◌, ◌<◌, ◌↔◌, All, IfOk, IsTrue, flat_map, length, take};
+ghost use Rattle.std.specs.Prelude.{◌≡◌, ◌⊎◌, ◌+◌, ◌≤◌, ◌<◌, IfOk, flat_map, length, take};
 ghost use Rattle.event_list.specs.Lines.{first_line};
 ghost use Rattle.event_list.specs.Names.{names_at};
-ghost use Rattle.report_views.specs.Stretches.{AreShort, IsStretchText, printed_size};
+ghost use Rattle.report_views.specs.Stretches.{IsStretchText, printed_size};
 
+use crate::long_names::are_all_short;
 use event_list::{NameList, append_line, name_of, names_of};
 use rayon::prelude::*;
 use std::alloc::Global;
 use std::thread::Threads;
-use trace_types::{Merged, OutOfMemory, Text};
+use trace_types::{Merged, OutOfMemory};
 
 const FIRST_LINE: &[u8] = b"hosttrace events 1\n";
 
@@ -43,24 +44,11 @@ pub fn batch_length(names: &[NameList], events: &[Merged]) -> usize
     ensures most { result < length events.now → (result ≡ BATCH_LENGTH) ⊎ (NAMES_SIZE < printed_size (names_at names.now) (take (result + 1) events.now)) }
 {
     let front = &events[..events.len().min(BATCH_LENGTH)];
-    if are_all_short(names) {
+    if are_all_short(names, SHORT_NAME) {
         front.len()
     } else {
         small_length(names, front)
     }
-}
-
-// Whether no name of any host is long.
-fn are_all_short(names: &[NameList]) -> bool
-    ensures { IsTrue result ↔ All (AreShort SHORT_NAME) names.now }
-{
-    names.iter().all(|names| are_short(names.as_slice()))
-}
-
-fn are_short(names: &[Text]) -> bool
-    ensures { IsTrue result ↔ AreShort SHORT_NAME names.now }
-{
-    names.iter().all(|name| name.as_bytes().len() <= SHORT_NAME)
 }
 
 // How many of the first events have names of at most `NAMES_SIZE` bytes together; at least one, where there is one.

@@ -19,7 +19,7 @@ returns-in_err-write_text-clause-front g c =
 
 pub returns-clause-written : goal.returns-clause-written
 returns-clause-written g c =
-    let lines = ap₂ (λ (names : List (List (List ℕ))) (ms : List Merged). event_lines (names_at names) ms) c.deref.ensures.value c.deref-2.ensures.value in
+    let lines = ap₂ (λ (names : List (List (List ℕ))) (ms : List Merged). event_lines (names_at names) ms) c.as_slice-names.ensures.value c.deref.ensures.value in
     let head = rw c.events_head.ensures at c.in_ok-write_text.ensures.written in
     let sink = g.K.Sink.contents c.write_text.new.sink in
     let end = g.K.Sink.contents c.write_batches.new.sink in
@@ -28,7 +28,7 @@ returns-clause-written g c =
 
 pub returns-clause-front : goal.returns-clause-front
 returns-clause-front g c =
-    let lines = ap₂ (λ (names : List (List (List ℕ))) (ms : List Merged). event_lines (names_at names) ms) c.deref.ensures.value c.deref-2.ensures.value in
+    let lines = ap₂ (λ (names : List (List (List ℕ))) (ms : List Merged). event_lines (names_at names) ms) c.as_slice-names.ensures.value c.deref.ensures.value in
     let head = rw c.events_head.ensures at c.in_ok-write_text.ensures.written in
     let sink = g.K.Sink.contents c.write_text.new.sink in
     let end = g.K.Sink.contents c.write_batches.new.sink in
