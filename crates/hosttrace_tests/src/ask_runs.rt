@@ -1,7 +1,7 @@
 //! The ask command, from words to text.
 use crate::harness::run_over;
-use crate::lists::{ONE_INSTANT, TWO_SWITCHES};
 use hosttrace::Status;
+use list_tests::lists::{ONE_INSTANT, TWO_SWITCHES};
 use std::alloc::AllocGlobal;
 use std::process::Abort;
 use std::str;

@@ -1,6 +1,6 @@
 //! Question files that break the grammar or pass a limit, and the order of refusals.
 use crate::harness::run_over;
-use crate::lists::ONE_SWITCH;
+use list_tests::lists::ONE_SWITCH;
 use std::alloc::AllocGlobal;
 use std::process::Abort;
 use std::str;

@@ -1,7 +1,7 @@
 //! Stores and sinks that fail.
-use crate::lists::ONE_SWITCH;
 use hosttrace::{Status, run};
 use ht_outside::{MemorySink, MemoryStore, OpenGate, Sink, SinkError, Store, StoreError};
+use list_tests::lists::ONE_SWITCH;
 use std::alloc::AllocGlobal;
 use std::str;
 use std::test::Fail;

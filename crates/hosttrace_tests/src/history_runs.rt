@@ -2,11 +2,11 @@
 ghost use Rattle.std.specs.Prelude.{IfOk};
 ghost use Rattle.history_core.specs.Agreement.{IsMerge};
 
-use crate::lists::{ONE_INSTANT, TWO_SWITCHES};
 use attribute_tree::Attributes;
 use event_list::read_list;
 use history_core::{Answer, Asked, History};
 use kernel_provider::Provider;
+use list_tests::lists::{ONE_INSTANT, TWO_SWITCHES};
 use std::alloc::AllocGlobal;
 use std::process::Abort;
 use std::test::Fail;

@@ -1,4 +1,5 @@
-//! Tests of whole commands and of calls whose success no contract can promise.
+//! Tests of whole commands over event lists and questions, of histories that are asked while they grow, and of calls whose
+//! success no contract can promise.
 #![tactic(auto)]
 
 #[cfg(test)]
@@ -8,23 +9,12 @@ mod bad_lists;
 #[cfg(test)]
 mod bad_questions;
 #[cfg(test)]
-mod check_runs;
-#[cfg(test)]
-mod cluster_runs;
-#[cfg(test)]
 mod faults;
-#[cfg(test)]
-mod folders;
-#[cfg(test)]
-mod harness;
+pub mod harness;
 #[cfg(test)]
 mod history_runs;
 #[cfg(test)]
 mod kind_runs;
-#[cfg(test)]
-mod lists;
-#[cfg(test)]
-mod make_runs;
 #[cfg(test)]
 mod many_events;
 #[cfg(test)]
@@ -32,10 +22,4 @@ mod name_runs;
 #[cfg(test)]
 mod path_runs;
 #[cfg(test)]
-mod small_texts;
-#[cfg(test)]
 mod state_runs;
-#[cfg(test)]
-mod step_runs;
-#[cfg(test)]
-mod trace_runs;

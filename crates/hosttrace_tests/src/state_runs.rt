@@ -1,7 +1,7 @@
 //! The state command, from words to text.
 use crate::harness::run_on;
-use crate::lists::{ONE_INSTANT, TWO_SWITCHES};
 use hosttrace::{ListFile, Refusal, Status};
+use list_tests::lists::{ONE_INSTANT, TWO_SWITCHES};
 use std::str;
 use std::test::Fail;
 

@@ -1,9 +1,11 @@
-//! Times the graph of waits and a critical path over the whole of an event list.
+//! Times the graph of waits and a critical path over the whole of an event list, and a history of it.
 //!
 //! `count HOST TID FILE..` prints of each list how many events it has, and how many pieces the path of the thread from the first
 //! key to the last one. `time HOST TID FILE..` prints besides how many nanoseconds finding the messages, making the graph and
-//! finding the path take.
+//! finding the path take. `asks QUESTIONS FILE..` prints how long feeding a history with each list takes, and so many questions.
 #![tactic(auto)]
+
+mod asks;
 
 ghost use Rattle.std.specs.Prelude.{IfOk};
 ghost use Rattle.list_messages.specs.Places.{IsReadTrace};
@@ -24,17 +26,41 @@ fn main(rt: HostRuntime) -> anyhow::Result<ExitCode> {
     for word in env::args(&rt)?.skip(1) {
         words.push(word)?;
     }
-    let [command, host, tid, files @ ..] = words.as_slice() else {
-        eprintln!(rt; "usage: wait_bench count|time HOST TID FILE..")?;
-        return Ok(ExitCode::FAILURE);
+    let Some((command, words)) = words.split_first() else {
+        return usage(&rt);
+    };
+    match command.as_str() {
+        "asks" => each_asked(&rt, words),
+        command => each_timed(&rt, command == "time", words),
+    }
+}
+
+fn each_asked(rt: &HostRuntime, words: &[String]) -> anyhow::Result<ExitCode> {
+    let [questions, files @ ..] = words else {
+        return usage(rt);
+    };
+    for file in files {
+        asks::print_ask_times(rt, questions.as_str(), file.as_str())?;
+    }
+    Ok(ExitCode::SUCCESS)
+}
+
+fn each_timed(rt: &HostRuntime, with_times: bool, words: &[String]) -> anyhow::Result<ExitCode> {
+    let [host, tid, files @ ..] = words else {
+        return usage(rt);
     };
     let host = host.as_str().parse::<u32>()?;
     let tid = tid.as_str().parse::<u32>()?;
     for file in files {
-        let run = timed(&rt, host, tid, file.as_str())?;
-        run.print(&rt, command.as_str() == "time")?;
+        let run = timed(rt, host, tid, file.as_str())?;
+        run.print(rt, with_times)?;
     }
     Ok(ExitCode::SUCCESS)
+}
+
+fn usage(rt: &HostRuntime) -> anyhow::Result<ExitCode> {
+    eprintln!(rt; "usage: wait_bench count|time HOST TID FILE.. | asks QUESTIONS FILE..")?;
+    Ok(ExitCode::FAILURE)
 }
 
 // What a list holds, and the nanoseconds that each step took.

@@ -2,8 +2,8 @@
 ghost use Rattle.std.specs.Prelude.{IfOk};
 ghost use Rattle.command_words.specs.Words.{HasRanges};
 
-use crate::harness::{Ran, run_command};
 use hosttrace::{Input, PlainCommand};
+use hosttrace_tests::harness::{Ran, run_command};
 use ht_outside::MemoryStore;
 use sqlite_items::Items;
 use std::alloc::AllocGlobal;

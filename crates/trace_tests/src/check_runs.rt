@@ -1,6 +1,6 @@
 //! Runs of `check`: what the metadata of folders declares, and why folders are refused.
-use crate::harness::{Ran, run_in};
 use hosttrace::Status;
+use hosttrace_tests::harness::{Ran, run_in};
 use ht_outside::MemoryStore;
 use std::alloc::AllocGlobal;
 use std::io::Write;

@@ -1,5 +1,5 @@
 //! Runs over the trace of a folder. The expected events are worked out by hand from the bytes.
-use crate::harness::{Ran, run_in};
+use hosttrace_tests::harness::{Ran, run_in};
 use ht_outside::MemoryStore;
 use std::alloc::AllocGlobal;
 use std::process::Abort;

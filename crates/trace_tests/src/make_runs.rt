@@ -1,6 +1,6 @@
 //! The make command, from words to text, and the report on the same traces in folders.
-use crate::harness::{run_in, run_on};
 use hosttrace::Status;
+use hosttrace_tests::harness::{run_in, run_on};
 use std::str;
 use std::test::Fail;
 use trace_gen::make;
