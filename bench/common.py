@@ -39,6 +39,14 @@ def hosttrace_bench() -> Path:
     return ready(TOP / "bench/hosttrace_bench", words, TOP / "crates/hosttrace_bench/out/hosttrace_bench")
 
 
+def wait_bench() -> Path:
+    """The program that times waits and questions; WAIT_BENCH names another one, which isn't built."""
+    if "WAIT_BENCH" in os.environ:
+        return Path(os.environ["WAIT_BENCH"]).resolve()
+    words = ["count", "0", "10", TOP / "crates/wait_bench/data/wakers.list"]
+    return ready(TOP / "bench/wait_bench", words, TOP / "crates/wait_bench/out/wait_bench")
+
+
 def environment(command: list) -> dict:
     """That of a command: the program's has what the script sets, and a peer's hasn't."""
     own = Path(command[0]).resolve() == Path(os.environ.get("HOSTTRACE", TOP / "crates/hosttrace_cli/out/hosttrace_cli")).resolve()
