@@ -1,0 +1,167 @@
+//! Fields that are passed over. The expected texts are read off the bytes by hand.
+ghost use Rattle.std.specs.Prelude.{◌≡◌, ◌≤◌, length};
+ghost use Rattle.kernel_layout.specs.Tracepoints.{layout_of};
+ghost use Rattle.packet_decoder.specs.Pieces.{AllLieIn, LiesIn};
+
+use crate::stream_cases::write_events;
+use ctf_fields::RawEvent;
+use kernel_layout::Layout;
+use metadata_tests::declared::declared;
+use packet_decoder::{EventReader, Failure, PacketSpan, Piece, cut};
+use std::alloc::{AllocError, AllocGlobal, Global};
+use std::io::Write;
+use std::process::Abort;
+use std::test::Fail;
+use trace_types::OutOfMemory;
+use type_table::TraceMeta;
+
+// Types of integers, and a stream whose packets tell their sizes, and whose events have an id and a time of a byte each.
+const BEFORE: &[u8] =
+    b"typealias integer { size = 8; } := u8; typealias integer { size = 16; } := u16;
+    trace { byte_order = le; };
+    stream { packet.context := struct { u16 content_size; u16 packet_size; };
+        event.header := struct { u8 id; u8 timestamp; }; };";
+
+/// The events of a file that these blocks declare, as lines of text. The fields that were passed over are missing.
+fn are_passed_over<R: AllocGlobal + Abort>(
+    rt: &R,
+    events: &str,
+    file: &[u8],
+    text: &str,
+) -> Result<(), Fail> {
+    let mut metadata = Vec::new(rt.alloc());
+    metadata.extend_from_slice(BEFORE)?;
+    metadata.extend_from_slice(events.as_bytes())?;
+    match declared(rt, &metadata)? {
+        Ok(meta) => are_passed_over_by(rt, &meta, file, text),
+        Err(_) => panic!(rt; "metadata"),
+    }
+}
+
+fn are_passed_over_by<R: AllocGlobal + Abort>(
+    rt: &R,
+    meta: &TraceMeta,
+    file: &[u8],
+    text: &str,
+) -> Result<(), Fail> {
+    assert!(rt; file.len() <= 65_536);
+    let found = text_of(rt.alloc(), meta, file)?;
+    assert_eq!(rt; std::str::from_utf8(&found), Ok(text));
+    Ok(())
+}
+
+fn text_of(alloc: Global, meta: &TraceMeta, file: &[u8]) -> Result<Vec<u8>, Fail>
+    requires { length file.now ≤ 65536 }
+{
+    let layout = Layout::new(alloc, meta)?;
+    let pieces = cut(alloc, meta, file)?;
+    let mut out = Vec::new(alloc);
+    write_pieces(alloc, meta, &layout, file, pieces.as_slice(), &mut out)?;
+    Ok(out)
+}
+
+fn write_pieces(
+    alloc: Global,
+    meta: &TraceMeta,
+    layout: &Layout,
+    file: &[u8],
+    pieces: &[Piece],
+    out: &mut Vec<u8>,
+) -> Result<(), Fail>
+    requires layout { layout.now ≡ layout_of meta.now }
+    requires file { length file.now ≤ 65536 }
+    requires pieces { AllLieIn file.now pieces.now }
+{
+    for piece in pieces {
+        if let Piece::Packet(span) = piece {
+            write_packet(alloc, meta, layout, file, span, out)?;
+        }
+    }
+    Ok(())
+}
+
+fn write_packet(
+    alloc: Global,
+    meta: &TraceMeta,
+    layout: &Layout,
+    file: &[u8],
+    span: &PacketSpan,
+    out: &mut Vec<u8>,
+) -> Result<(), Fail>
+    requires layout { layout.now ≡ layout_of meta.now }
+    requires file { length file.now ≤ 65536 }
+    requires span { LiesIn file.now span.now }
+{
+    match events_in(alloc, meta, layout, file, span) {
+        Ok(events) => write_events(meta, events.as_slice(), out)?,
+        Err(Failure::Refused(cause)) => writeln!(out, "refused {cause:?}")?,
+        Err(Failure::OutOfMemory) => return Err(OutOfMemory.into()),
+    }
+    Ok(())
+}
+
+fn events_in(
+    alloc: Global,
+    meta: &TraceMeta,
+    layout: &Layout,
+    file: &[u8],
+    span: &PacketSpan,
+) -> Result<Vec<RawEvent>, Failure>
+    requires layout { layout.now ≡ layout_of meta.now }
+    requires file { length file.now ≤ 65536 }
+    requires span { LiesIn file.now span.now }
+{
+    let mut reader = EventReader::open(alloc, meta, file, span)?;
+    let mut events = Vec::new(alloc);
+    reader.plan_headers(alloc, layout.lone(meta))?;
+    while let Some(event) = reader.next_event_of(alloc, layout.skips(meta))? {
+        if let Err(full) = events.push(event) {
+            return Err(AllocError::from(full).into());
+        }
+    }
+    Ok(events)
+}
+
+// A structure without fields at the end of a packet takes no bit, and so does not lie past the end.
+#[test]
+fn nothing_at_the_end(rt: HostRuntime) -> Result<(), Fail> {
+    are_passed_over(
+        &rt,
+        "event { name = a; id = 1; fields := struct { u8 n; struct { } x; }; };",
+        &[0x38, 0, 0x38, 0, 1, 5, 9],
+        "5 0 0 { }\n",
+    )
+}
+
+#[test]
+fn an_array_of_structures(rt: HostRuntime) -> Result<(), Fail> {
+    are_passed_over(
+        &rt,
+        "event { name = a; id = 1; fields := struct { struct { u8 n; u16 m; } x[2]; }; };
+        event { name = b; id = 2; };",
+        &[0x70, 0, 0x70, 0, 1, 5, 1, 2, 0, 3, 4, 0, 2, 6],
+        "5 0 0 { }\n6 0 1 { }\n",
+    )
+}
+
+#[test]
+fn one_bit_too_few(rt: HostRuntime) -> Result<(), Fail> {
+    are_passed_over(
+        &rt,
+        "event { name = a; id = 1; fields := struct { u8 n; u8 m; }; };",
+        &[0x3F, 0, 0x40, 0, 1, 5, 9, 9],
+        "refused ShortContent\n",
+    )
+}
+
+// What is aligned to more than a byte is read, and so are the fields that a kind needs.
+#[test]
+fn fields_that_are_read(rt: HostRuntime) -> Result<(), Fail> {
+    are_passed_over(
+        &rt,
+        "event { name = a; id = 1; fields := struct { integer { size = 32; align = 32; } n; }; };
+        event { name = irq_handler_exit; id = 2; fields := struct { u8 irq; }; };",
+        &[0x78, 0, 0x78, 0, 1, 5, 0, 0, 7, 0, 0, 0, 2, 6, 8],
+        "5 0 0 { n=7 }\n6 0 1 { irq=8 }\n",
+    )
+}
