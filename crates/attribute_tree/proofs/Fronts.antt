@@ -6,7 +6,7 @@ use Rattle.std.specs.List.{AllByRecursion, list_any}
 use Rattle.std.proofs.lemmas.Option.{slice_get_within, slice_get-get_or}
 use Rattle.std.proofs.lemmas.Map.Keys.{IsDistinct-push, IsDistinct-cons}
 use Rattle.attribute_tree.specs.declared.owner.Owner.{Owner}
-use Rattle.attribute_tree.specs.declared.owner.Owner.TheVariants.{Cpu, Thread}
+use Rattle.attribute_tree.specs.declared.owner.Owner.TheVariants.{Cpu, Idle, Thread}
 use Rattle.attribute_tree.specs.declared.prefix.Prefix.{Prefix}
 use Rattle.attribute_tree.specs.declared.prefix.Prefix.TheVariants.{Root, Host, Cpus, Threads}
 use Rattle.attribute_tree.specs.Links.{LinkLists, GetsChild, rooted_links}
@@ -26,33 +26,44 @@ laws = record { refl = prefix_itself; symm = λ x y. by x y (same_prefix x y) re
 -- ---- owners and those above them
 pub host_noted : (o : Owner) → is_group (host_of o) ≡ true
 host_noted (Cpu host cpu) = refl
-host_noted (Thread host thread) = refl
+host_noted (Idle host cpu) = refl
+host_noted (Thread host tid) = refl
 
 pub group_noted : (o : Owner) → is_group (group_of o) ≡ true
 group_noted (Cpu host cpu) = refl
-group_noted (Thread host thread) = refl
+group_noted (Idle host cpu) = refl
+group_noted (Thread host tid) = refl
 
 pub owner_unnoted : (o : Owner) → is_group (prefix_of o) ≡ false
 owner_unnoted (Cpu host cpu) = refl
-owner_unnoted (Thread host thread) = refl
+owner_unnoted (Idle host cpu) = refl
+owner_unnoted (Thread host tid) = refl
 
 pub host_parent : (o : Owner) → parent_of (host_of o) ≡ Some Root
 host_parent (Cpu host cpu) = refl
-host_parent (Thread host thread) = refl
+host_parent (Idle host cpu) = refl
+host_parent (Thread host tid) = refl
 
 pub group_parent : (o : Owner) → parent_of (group_of o) ≡ Some (host_of o)
 group_parent (Cpu host cpu) = refl
-group_parent (Thread host thread) = refl
+group_parent (Idle host cpu) = refl
+group_parent (Thread host tid) = refl
 
 pub owner_parent : (o : Owner) → parent_of (prefix_of o) ≡ Some (group_of o)
 owner_parent (Cpu host cpu) = refl
-owner_parent (Thread host thread) = refl
+owner_parent (Idle host cpu) = refl
+owner_parent (Thread host tid) = refl
 
 pub owner_apart : (o a : Owner) → same_owner o a ≡ false → same_prefix (prefix_of a) (prefix_of o) ≡ false
 owner_apart (Cpu h c) (Cpu g d) e = turned (prefix_of (Cpu h c)) (prefix_of (Cpu g d)) e
-owner_apart (Cpu h c) (Thread g k) e = refl
-owner_apart (Thread h k) (Cpu g d) e = refl
-owner_apart (Thread h k) (Thread g l) e = turned (prefix_of (Thread h k)) (prefix_of (Thread g l)) e
+owner_apart (Cpu h c) (Idle g d) e = refl
+owner_apart (Cpu h c) (Thread g u) e = refl
+owner_apart (Idle h c) (Cpu g d) e = refl
+owner_apart (Idle h c) (Idle g d) e = turned (prefix_of (Idle h c)) (prefix_of (Idle g d)) e
+owner_apart (Idle h c) (Thread g u) e = turned (prefix_of (Idle h c)) (prefix_of (Thread g u)) (search rules)
+owner_apart (Thread h t) (Cpu g d) e = refl
+owner_apart (Thread h t) (Idle g d) e = turned (prefix_of (Thread h t)) (prefix_of (Idle g d)) (search rules)
+owner_apart (Thread h t) (Thread g u) e = turned (prefix_of (Thread h t)) (prefix_of (Thread g u)) e
 
 pub owner_is : (o a : Owner) → same_owner o a ≡ true → o ≡ a
 owner_is o a h = search rules
@@ -178,7 +189,8 @@ grown_other nodes o p root alone own =
 
 pub owner_root : (o : Owner) → same_prefix (prefix_of o) Root ≡ false
 owner_root (Cpu host cpu) = refl
-owner_root (Thread host thread) = refl
+owner_root (Idle host cpu) = refl
+owner_root (Thread host tid) = refl
 
 -- ---- an owner that gets its node: the root, its host and its group are made where they lack, and then its own
 module _ (nodes : List Prefix) (noted hosts : Prefix → Option ℕ) (links with_root with_host : LinkLists) (o : Owner) (host : Prefix) (a : ℕ)

@@ -5,9 +5,10 @@ use Rattle.std.specs.List.{list_any}
 use Rattle.std.proofs.lemmas.List.Folds.{list_any-append}
 use Rattle.trace_types.specs.declared.path.Path.{Path as AttributePath}
 use Rattle.trace_types.specs.declared.path.Path.TheVariants as path
+use Rattle.trace_types.specs.declared.path.ThreadKey.TheVariants as thread
 use Rattle.trace_types.specs.Same.{same_path}
 use Rattle.attribute_tree.specs.declared.owner.Owner.{Owner}
-use Rattle.attribute_tree.specs.declared.owner.Owner.TheVariants.{Cpu, Thread}
+use Rattle.attribute_tree.specs.declared.owner.Owner.TheVariants.{Cpu, Idle, Thread}
 use Rattle.attribute_tree.specs.declared.prefix.Prefix.{Prefix}
 use Rattle.attribute_tree.specs.declared.prefix.Prefix.TheVariants as front
 use Rattle.attribute_tree.specs.declared.prefix.Prefix.TheVariants.{Root, Host, Cpus, Threads, Leaf}
@@ -47,7 +48,7 @@ any_front p x nodes host group owner h g o e none =
 
 any_path : (p x : AttributePath) (nodes : List Prefix) → same_path p x ≡ false → list_any (same_prefix (Leaf p)) nodes ≡ false → list_any (same_prefix (Leaf p)) (with_nodes nodes (prefixes_of x)) ≡ false
 any_path p (path.Cpu host cpu leaf) nodes e h = any_front p (path.Cpu host cpu leaf) nodes (Host host) (Cpus host) (front.Cpu host cpu) refl refl refl e h
-any_path p (path.Thread host thread leaf) nodes e h = any_front p (path.Thread host thread leaf) nodes (Host host) (Threads host) (front.Thread host thread) refl refl refl e h
+any_path p (path.Thread host key leaf) nodes e h = any_front p (path.Thread host key leaf) nodes (Host host) (Threads host) (front.Thread host key) refl refl refl e h
 
 any_paths : (p : AttributePath) (paths : List AttributePath) (nodes : List Prefix) → list_any (same_path p) paths ≡ false → list_any (same_prefix (Leaf p)) nodes ≡ false → list_any (same_prefix (Leaf p)) (nodes_from nodes paths) ≡ false
 any_paths p [] nodes none h = h
@@ -66,19 +67,23 @@ leaf_new (x ∷ xs) p new = any_none (same_prefix (Leaf p)) (kept_nodes (x ∷ x
 -- ---- the nodes of a path are its owner's and its leaf's
 path_nodes : (nodes : List Prefix) (p : AttributePath) → with_nodes nodes (prefixes_of p) ≡ with_node (with_nodes nodes (fronts_of (owner_of p))) (Leaf p)
 path_nodes nodes (path.Cpu host cpu leaf) = refl
-path_nodes nodes (path.Thread host thread leaf) = refl
+path_nodes nodes (path.Thread host (thread.Idle cpu) leaf) = refl
+path_nodes nodes (path.Thread host (thread.Tid tid) leaf) = refl
 
 leaf_parent : (p : AttributePath) → parent_of (Leaf p) ≡ Some (prefix_of (owner_of p))
 leaf_parent (path.Cpu host cpu leaf) = refl
-leaf_parent (path.Thread host thread leaf) = refl
+leaf_parent (path.Thread host (thread.Idle cpu) leaf) = refl
+leaf_parent (path.Thread host (thread.Tid tid) leaf) = refl
 
 owner_leaf : (o : Owner) (p : AttributePath) → same_prefix (prefix_of o) (Leaf p) ≡ false
 owner_leaf (Cpu host cpu) p = refl
-owner_leaf (Thread host thread) p = refl
+owner_leaf (Idle host cpu) p = refl
+owner_leaf (Thread host tid) p = refl
 
 leaf_owner : (p : AttributePath) (o : Owner) → same_prefix (Leaf p) (prefix_of o) ≡ false
 leaf_owner p (Cpu host cpu) = refl
-leaf_owner p (Thread host thread) = refl
+leaf_owner p (Idle host cpu) = refl
+leaf_owner p (Thread host tid) = refl
 
 module _ (rows more : Owner → Option Row) (nodes : List Prefix) (p : AttributePath) (o : Owner) (n : ℕ) (owners : AreOwners rows nodes) (node : node_among (with_nodes (rooted nodes) (fronts_of o)) (prefix_of o) ≡ Some n)
     (updates : (a : Owner) → node_in (more a) ≡ cond (same_owner o a) (Some n) (node_in (rows a))) where

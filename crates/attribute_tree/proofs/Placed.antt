@@ -24,8 +24,10 @@ path_by (Thread h (Idle c) l) (Thread g (Idle d) m) e f = path_from_rank (Thread
 path_by (Thread h (Tid c) l) (Thread g (Tid d) m) e f = path_from_rank (Thread h (Tid c) l) (Thread g (Tid d) m) (cc)
 path_by (Thread h (Idle c) l) (Thread g (Tid d) m) e f = absurd (cc)
 path_by (Thread h (Tid c) l) (Thread g (Idle d) m) e f = absurd (cc)
-path_by (Cpu h c l) (Thread g k m) e f = absurd (cc)
-path_by (Thread h k l) (Cpu g d m) e f = absurd (cc)
+path_by (Cpu h c l) (Thread g (Idle d) m) e f = absurd (cc)
+path_by (Cpu h c l) (Thread g (Tid d) m) e f = absurd (cc)
+path_by (Thread h (Idle c) l) (Cpu g d m) e f = absurd (cc)
+path_by (Thread h (Tid c) l) (Cpu g d m) e f = absurd (cc)
 
 pub blank : (zeros : List ℕ) → AllByRecursion (λ z. z ≡ 0) zeros → (j : ℕ) → get_or zeros j 0 ≡ 0
 blank [] h j = refl

@@ -1,6 +1,7 @@
 -- The fronts above leaves, and which of them have their nodes noted where (this project's own).
 use Rattle.std.specs.Prelude.{◌≡◌, ℕ, Bool, false, true, List, [], ◌∷◌, Option, Some, position}
 use Rattle.trace_types.specs.declared.path.Path.{Path as AttributePath}
+use Rattle.trace_types.specs.declared.path.ThreadKey.TheVariants.{Idle, Tid}
 use Rattle.attribute_tree.specs.declared.owner.Owner.{Owner}
 use Rattle.attribute_tree.specs.declared.owner.Owner.TheVariants as owner
 use Rattle.attribute_tree.specs.declared.prefix.Prefix.{Prefix}
@@ -13,17 +14,20 @@ use Rattle.attribute_tree.specs.Rows.{node_in, AreRows}
 -- the front of a processor or a thread
 abbrev pub prefix_of : Owner → Prefix
 prefix_of (owner.Cpu host cpu) = Cpu host cpu
-prefix_of (owner.Thread host thread) = Thread host thread
+prefix_of (owner.Idle host cpu) = Thread host (Idle cpu)
+prefix_of (owner.Thread host tid) = Thread host (Tid tid)
 
 -- the front of its host
 abbrev pub host_of : Owner → Prefix
 host_of (owner.Cpu host cpu) = Host host
-host_of (owner.Thread host thread) = Host host
+host_of (owner.Idle host cpu) = Host host
+host_of (owner.Thread host tid) = Host host
 
 -- the front of all processors or all threads of its host
 abbrev pub group_of : Owner → Prefix
 group_of (owner.Cpu host cpu) = Cpus host
-group_of (owner.Thread host thread) = Threads host
+group_of (owner.Idle host cpu) = Threads host
+group_of (owner.Thread host tid) = Threads host
 
 -- the fronts of a processor or a thread, the shortest first
 abbrev pub fronts_of : Owner → List Prefix

@@ -2,9 +2,11 @@
 use Rattle.std.specs.Prelude.{◌≡◌, ℕ, zero, suc, Bool, List, Option, None, Some, get_or}
 use Rattle.trace_types.specs.declared.path.Path.{Path as AttributePath}
 use Rattle.trace_types.specs.declared.path.Path.TheVariants as path
+use Rattle.trace_types.specs.declared.path.ThreadKey.{ThreadKey}
+use Rattle.trace_types.specs.declared.path.ThreadKey.TheVariants as thread
 use Rattle.trace_types.specs.Paths.{cpu_leaf_rank, thread_leaf_rank}
 use Rattle.attribute_tree.specs.declared.owner.Owner.{Owner}
-use Rattle.attribute_tree.specs.declared.owner.Owner.TheVariants.{Cpu, Thread}
+use Rattle.attribute_tree.specs.declared.owner.Owner.TheVariants.{Cpu, Idle, Thread}
 use Rattle.attribute_tree.specs.declared.rows.Row.{Row}
 use Rattle.attribute_tree.specs.contracts.owner.OwnerPartialEq.TheImpl as owner
 use Rattle.attribute_tree.specs.Numbered.{number_among}
@@ -13,10 +15,15 @@ use Rattle.attribute_tree.specs.Numbered.{number_among}
 abbrev pub same_owner : Owner → Owner → Bool
 same_owner = owner.ghosts.eq
 
+-- a host's thread
+abbrev pub thread_of : ℕ → ThreadKey → Owner
+thread_of host (thread.Idle cpu) = Idle host cpu
+thread_of host (thread.Tid tid) = Thread host tid
+
 -- the processor or the thread that a path is of
 abbrev pub owner_of : AttributePath → Owner
 owner_of (path.Cpu host cpu leaf) = Cpu host cpu
-owner_of (path.Thread host thread leaf) = Thread host thread
+owner_of (path.Thread host key leaf) = thread_of host key
 
 -- the place of a path's leaf in its owner's row
 abbrev pub leaf_of : AttributePath → ℕ

@@ -1,6 +1,6 @@
 //! Whose leaf a path is.
 ghost use Rattle.std.specs.Prelude.{◌≡◌, ◌<◌, true};
-ghost use Rattle.attribute_tree.specs.Rows.{owner_of, leaf_of};
+ghost use Rattle.attribute_tree.specs.Rows.{owner_of, thread_of, leaf_of};
 ghost use Rattle.attribute_tree.specs.Fronts.{host_of, group_of, is_group};
 
 use crate::prefix::Prefix;
@@ -9,11 +9,13 @@ use trace_types::{Path, ThreadKey};
 /// How many leaves a thread has; a processor has fewer.
 pub const LEAVES: usize = 6;
 
-/// A processor or a thread of a host: a path without its leaf.
+/// A processor or a thread of a host: a path without its leaf. The idle thread of a processor is a
+/// case of its own, since an enum within it would take a tag of its own.
 #[derive(Clone, Copy, Debug, PartialEq, Eq, Hash)]
 pub enum Owner {
     Cpu { host: u32, cpu: u32 },
-    Thread { host: u32, thread: ThreadKey },
+    Idle { host: u32, cpu: u32 },
+    Thread { host: u32, tid: u32 },
 }
 
 impl Owner {
@@ -25,7 +27,9 @@ impl Owner {
     {
         match self {
             Owner::Cpu { host, .. } => (Prefix::Host(host), Prefix::Cpus(host)),
-            Owner::Thread { host, .. } => (Prefix::Host(host), Prefix::Threads(host)),
+            Owner::Idle { host, .. } | Owner::Thread { host, .. } => {
+                (Prefix::Host(host), Prefix::Threads(host))
+            }
         }
     }
 }
@@ -38,6 +42,16 @@ pub fn split_leaf(path: Path) -> (Owner, usize)
 {
     match path {
         Path::Cpu { host, cpu, leaf } => (Owner::Cpu { host, cpu }, leaf as usize),
-        Path::Thread { host, thread, leaf } => (Owner::Thread { host, thread }, leaf as usize),
+        Path::Thread { host, thread, leaf } => (thread_owner(host, thread), leaf as usize),
+    }
+}
+
+// A thread as an owner.
+fn thread_owner(host: u32, thread: ThreadKey) -> Owner
+    ensures { result ≡ thread_of host thread }
+{
+    match thread {
+        ThreadKey::Idle(cpu) => Owner::Idle { host, cpu },
+        ThreadKey::Tid(tid) => Owner::Thread { host, tid },
     }
 }
