@@ -5,3 +5,5 @@ pub mod Rooted
 pub mod Fronts
 pub mod Kept
 pub mod Placed
+pub mod Places
+pub mod Found

@@ -14,7 +14,7 @@ use Rattle.attribute_tree.specs.Rows.{same_owner, owner_of, leaf_of, number_said
 use Rattle.attribute_tree.proofs.Numbers.{apart}
 use Rattle.attribute_tree.proofs.Fronts.{owner_is}
 
-owner_itself : (a : Owner) → same_owner a a ≡ true
+pub owner_itself : (a : Owner) → same_owner a a ≡ true
 owner_itself a = search rules
 
 -- a path is its owner and its leaf

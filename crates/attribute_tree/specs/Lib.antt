@@ -3,3 +3,4 @@ pub mod Nodes
 pub mod Links
 pub mod Rows
 pub mod Fronts
+pub mod Places

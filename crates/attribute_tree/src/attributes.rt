@@ -8,7 +8,7 @@ use crate::links::Links;
 use crate::nodes::owner_node;
 use crate::owner::Owner;
 use crate::prefix::Prefix;
-use crate::rows::{Row, number_of};
+use crate::rows::{MOST_OWNERS, Row, number_of, path_by_place};
 use indexmap::IndexMap;
 use std::alloc::Global;
 use std::marker::Model;
@@ -25,11 +25,12 @@ const MOST_PATHS: usize = u32::MAX as usize;
 
 /// Paths that are numbered from 0 in the order in which they were added, and the tree of their
 /// nodes. A row has the node of one processor or thread and the numbers of its paths, so that the
-/// second of them is found in memory that the first has brought near. Contracts see the list of
-/// paths, and whether there is room for one more.
+/// second of them is found in memory that the first has brought near. Of a number the path's place
+/// in the rows is kept, which tells the path by the row's owner. Contracts see the list of paths, and
+/// whether there is room for one more.
 #[derive(Debug, Drop)]
 pub struct Attributes {
-    paths: Vec<Path>,
+    places: Vec<u32>,
     rows: IndexMap<Owner, Row>,
     groups: IndexMap<Prefix, u32>,
     links: Links,
@@ -37,17 +38,17 @@ pub struct Attributes {
 
 impl Model for Attributes {
     ghost use Rattle.std.specs.Prelude.{◌-◌, ◌^◌, ◌&&◌, nat_lt, nat_le, vec_len, vec_capacity};
-    ghost use Rattle.indexmap.specs.IndexMap.{get, spare};
+    ghost use Rattle.indexmap.specs.IndexMap.{get, index_map_len, keys, spare};
     ghost use Rattle.attribute_tree.specs.Numbered.{Numbered};
     ghost use Rattle.attribute_tree.specs.Nodes.{same_prefix};
     ghost use Rattle.attribute_tree.specs.Rows.{same_owner};
-    ghost use Rattle.attribute_tree.specs.Fronts.{AreKept};
+    ghost use Rattle.attribute_tree.specs.Places.{paths_at, AreStored};
 
     ghost Value = { Numbered };
 
-    ghost view = { λ a. record { paths = a.paths.items; has_room = nat_lt (vec_len a.paths) (2 ^ 32 - 1) && (nat_lt (vec_len a.paths) (vec_capacity a.paths) && (nat_lt 0 (spare a.rows) && (nat_le 2 (spare a.groups) && nat_le 5 a.links.room))) } };
+    ghost view = { λ a. record { paths = paths_at (keys a.rows) a.places.items; has_room = nat_lt (vec_len a.places) (2 ^ 32 - 1) && (nat_lt (index_map_len a.rows) (2 ^ 29) && (nat_lt (vec_len a.places) (vec_capacity a.places) && (nat_lt 0 (spare a.rows) && (nat_le 2 (spare a.groups) && nat_le 5 a.links.room)))) } };
 
-    ghost invariant = { λ a. AreKept a.paths.items (get same_owner a.rows) (get same_prefix a.groups) a.links };
+    ghost invariant = { λ a. AreStored (keys a.rows) a.places.items (get same_owner a.rows) (get same_prefix a.groups) a.links };
 }
 
 impl Attributes {
@@ -56,7 +57,7 @@ impl Attributes {
         ensures { result.paths ≡ [] }
     {
         Attributes {
-            paths: Vec::new(alloc),
+            places: Vec::new(alloc),
             rows: IndexMap::new(alloc),
             groups: IndexMap::new(alloc),
             links: Links::new(alloc),
@@ -64,19 +65,19 @@ impl Attributes {
     }
 
     /// Makes room for one more path. The only error is lack of memory, which also comes where the
-    /// numbers of 32 bits would not do for the paths or their nodes.
+    /// numbers of 32 bits would not do for the paths, their places or their nodes.
     pub fn reserve(&mut self) -> Result<(), OutOfMemory>
         ensures paths { self.new.paths ≡ self.old.paths }
         ensures room { OnOk result (self.new.has_room ≡ true) }
         ensures succeeds { self.old.has_room ≡ true → IsOk result }
     {
-        if self.paths.len() >= MOST_PATHS {
+        if self.places.len() >= MOST_PATHS || self.rows.len() >= MOST_OWNERS {
             return Err(OutOfMemory);
         }
         self.links.reserve(NODES_A_PATH)?;
         self.groups.reserve(GROUPS_A_PATH)?;
         self.rows.reserve(1)?;
-        self.paths.reserve(1)?;
+        self.places.reserve(1)?;
         Ok(())
     }
 
@@ -90,16 +91,16 @@ impl Attributes {
         ensures succeeds { self.old.has_room ≡ true → IsOk result }
     {
         self.reserve()?;
-        let number = self.paths.len();
-        let node = owner_node(
+        let number = self.places.len();
+        let spot = owner_node(
             &mut self.rows,
             &mut self.groups,
             &mut self.links,
             path,
             number as u32,
         );
-        self.links.add(node);
-        self.paths.push_reserved(path);
+        self.links.add(spot.node);
+        self.places.push_reserved(spot.place);
         Ok(number)
     }
 
@@ -115,14 +116,14 @@ impl Attributes {
     pub fn len(&self) -> usize
         ensures { result ≡ length self.now.paths }
     {
-        self.paths.len()
+        self.places.len()
     }
 
     /// Whether no path is held.
     pub fn is_empty(&self) -> bool
         ensures { IsTrue result ↔ (length self.now.paths ≡ 0) }
     {
-        self.paths.is_empty()
+        self.places.is_empty()
     }
 
     /// The path of a number.
@@ -130,7 +131,7 @@ impl Attributes {
         requires { number < length self.now.paths }
         ensures { slice_get self.now.paths number ≡ Some result }
     {
-        self.paths[number]
+        path_by_place(&self.rows, self.places[number]).unwrap()
     }
 
     /// The children of a node, in the order of their making. Node 0 is the root, which is there

@@ -9,7 +9,7 @@ stands paths path None e = tt
 stands paths path (Some n) e = number_stands paths path n (sym e)
 
 pub returns-clause-number : goal.returns-clause-number
-returns-clause-number c = c.number_of.ensures ∙ (c.self.invariant.numbers c.args.path ∙ ap (λ (n : Numbered). number_among n.paths c.args.path) c.self.view_is)
+returns-clause-number c = c.number_of.ensures ∙ (c.self.invariant.kept.numbers c.args.path ∙ ap (λ (n : Numbered). number_among n.paths c.args.path) c.self.view_is)
 
 pub returns-clause-found : goal.returns-clause-found
 returns-clause-found c = stands c.args.self.now.paths c.args.path c.number_of.result (returns-clause-number c)
