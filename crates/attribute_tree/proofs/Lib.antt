@@ -1,6 +1,7 @@
 pub mod Numbers
 pub mod Linked
 pub mod Said
+pub mod Rings
 pub mod Rooted
 pub mod Fronts
 pub mod Kept

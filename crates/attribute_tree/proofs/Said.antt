@@ -1,11 +1,10 @@
--- The links that numbers say, as the numbers are set.
-use Rattle.std.proofs.Common.{◌≡◌, ℕ, zero, suc, ◌<◌, List, [], ◌∷◌, ◌++◌, length, Some, None, get_or, slice_set, refl, sym, ap, ◌∙◌, subst, arith}
-use Rattle.std.specs.Prelude.{unwrap_or}
-use Rattle.std.specs.List.{AllByRecursion}
+-- The links that two lists of numbers say.
+use Rattle.std.proofs.Common.{◌≡◌, ℕ, zero, suc, ◌+◌, ◌<◌, ◌≤◌, Bool, true, false, nat_lt, if◌then◌else◌, List, [], ◌∷◌, ◌++◌, length, Option, Some, None, get_or, slice_set, refl, sym, ap, ◌∙◌, arith}
+use Rattle.std.specs.Bool.{then_some}
 use Rattle.std.proofs.Math.ListN.{get_or-map}
-use Rattle.std.proofs.lemmas.List.{get_or_default, map-append, map-set, set-get_or}
-use Rattle.attribute_tree.specs.Nodes.{with_next}
-use Rattle.attribute_tree.specs.Links.{LinkLists, GetsChild, link_said, links_said}
+use Rattle.std.proofs.lemmas.Bool.{lt-ltb, le-ltb}
+use Rattle.std.proofs.lemmas.List.{get_or_default, get_or_past, length-map, map-append, map-set}
+use Rattle.attribute_tree.specs.Links.{link_said, links_said, first_said, firsts_said, next_said, nexts_said, rooted_links}
 
 pub said_some : (n : ℕ) → 0 < n → link_said n ≡ Some n
 said_some zero h = absurd (omega arith)
@@ -23,39 +22,68 @@ said_at numbers i = get_or-map link_said numbers i 0
 pub said_set : (numbers : List ℕ) (i n : ℕ) → links_said (slice_set numbers i n ++ 0 ∷ []) ≡ slice_set (links_said numbers) i (link_said n) ++ None ∷ []
 said_set numbers i n = map-append link_said (slice_set numbers i n) (0 ∷ []) ∙ ap (λ l. l ++ None ∷ []) (map-set link_said numbers i n)
 
-pub said_push : (numbers : List ℕ) → links_said (numbers ++ 0 ∷ []) ≡ links_said numbers ++ None ∷ []
-said_push numbers = map-append link_said numbers (0 ∷ [])
+-- ---- first children
+pub first_some : (ring : List ℕ) (l : ℕ) → 0 < l → first_said ring l ≡ Some (get_or ring l 0)
+first_some ring zero h = absurd (omega arith)
+first_some ring (suc l) h = refl
 
-pub said_length : (numbers : List ℕ) → length (links_said numbers) ≡ length numbers
-said_length [] = refl
-said_length (n ∷ ns) = ap suc (said_length ns)
+pub first_is : (ring last : List ℕ) (i : ℕ) → get_or (firsts_said ring last) i None ≡ first_said ring (get_or last i 0)
+first_is ring last i = get_or-map (first_said ring) last i 0
 
--- a first child that is there stays
-pub first_stays : (numbers : List ℕ) (i n : ℕ) → 0 < get_or numbers i 0 → links_said (numbers ++ 0 ∷ []) ≡ slice_set (links_said numbers) i (Some (unwrap_or (get_or (links_said numbers) i None) n)) ++ None ∷ []
-first_stays numbers i n some =
-    said_push numbers ∙ ap (λ l. l ++ None ∷ []) (sym (ap (slice_set (links_said numbers) i) same ∙ set-get_or (links_said numbers) i None))
+pub firsts_length : (ring last : List ℕ) → length (firsts_said ring last) ≡ length last
+firsts_length ring last = length-map last (first_said ring)
+
+-- ---- next siblings
+pub next_some : (k n : ℕ) → k < n → next_said k n ≡ Some n
+next_some k n h = ap (λ b. if b then Some n else None) (lt-ltb k n h)
+
+pub next_none : (k n : ℕ) → n ≤ k → next_said k n ≡ None
+next_none k n h = ap (λ b. if b then Some n else None) (le-ltb k n h)
+
+nexts_at : (k i : ℕ) (ring : List ℕ) → get_or (nexts_said k ring) i None ≡ next_said (k + i) (get_or ring i 0)
+nexts_at k i [] = sym (next_none (k + i) 0 (omega arith))
+nexts_at k zero (n ∷ ns) = let same : k ≡ k + 0 = omega arith in ap (λ j. next_said j n) same
+nexts_at k (suc i) (n ∷ ns) = let same : suc k + i ≡ k + suc i = omega arith in nexts_at (suc k) i ns ∙ ap (λ j. next_said j (get_or ns i 0)) same
+
+pub next_is : (ring : List ℕ) (i : ℕ) → get_or (nexts_said 0 ring) i None ≡ next_said i (get_or ring i 0)
+next_is ring i = let same : 0 + i ≡ i = omega arith in nexts_at 0 i ring ∙ ap (λ j. next_said j (get_or ring i 0)) same
+
+pub nexts_length : (k : ℕ) (ring : List ℕ) → length (nexts_said k ring) ≡ length ring
+nexts_length k [] = refl
+nexts_length k (n ∷ ns) = ap suc (nexts_length (suc k) ns)
+
+pub next_past : (ring : List ℕ) (i : ℕ) → length ring ≤ i → get_or (nexts_said 0 ring) i None ≡ None
+next_past ring i h = get_or_past (nexts_said 0 ring) i None (let k = nexts_length 0 ring in omega (arith, h, k))
+
+pub next_then : (ring : List ℕ) (i : ℕ) → then_some (nat_lt i (get_or ring i 0)) (get_or ring i 0) ≡ get_or (nexts_said 0 ring) i None
+next_then ring i = by (nat_lt i (get_or ring i 0)) ∙ sym (next_is ring i)
   where
-    child : get_or (links_said numbers) i None ≡ Some (get_or numbers i 0)
-    child = said_at numbers i ∙ said_some (get_or numbers i 0) some
+    by : (b : Bool) → then_some b (get_or ring i 0) ≡ (if b then Some (get_or ring i 0) else None)
+    by true = refl
+    by false = refl
 
-    same : Some (unwrap_or (get_or (links_said numbers) i None) n) ≡ get_or (links_said numbers) i None
-    same = ap (λ o. Some (unwrap_or o n)) child ∙ sym child
+nexts_push_from : (k : ℕ) (ring : List ℕ) (n : ℕ) → nexts_said k (ring ++ n ∷ []) ≡ nexts_said k ring ++ next_said (k + length ring) n ∷ []
+nexts_push_from k [] n = let same : k ≡ k + 0 = omega arith in ap (λ j. next_said j n ∷ []) same
+nexts_push_from k (r ∷ rs) n =
+    let same : suc k + length rs ≡ k + suc (length rs) = omega arith in
+    ap (λ l. next_said k r ∷ l) (nexts_push_from (suc k) rs n ∙ ap (λ j. nexts_said (suc k) rs ++ next_said j n ∷ []) same)
 
--- the first child of a node that has none
-pub first_comes : (numbers : List ℕ) (i n : ℕ) → get_or numbers i 0 ≡ 0 → 0 < n → links_said (slice_set numbers i n ++ 0 ∷ []) ≡ slice_set (links_said numbers) i (Some (unwrap_or (get_or (links_said numbers) i None) n)) ++ None ∷ []
-first_comes numbers i n none some =
-    said_set numbers i n ∙ ap (λ o. slice_set (links_said numbers) i o ++ None ∷ []) (said_some n some ∙ sym (ap (λ o. Some (unwrap_or o n)) (said_at numbers i ∙ ap link_said none)))
+-- a node that is followed by none that is greater has no next sibling
+pub nexts_push : (ring : List ℕ) (n : ℕ) → n ≤ length ring → nexts_said 0 (ring ++ n ∷ []) ≡ nexts_said 0 ring ++ None ∷ []
+nexts_push ring n h = nexts_push_from 0 ring n ∙ ap (λ o. nexts_said 0 ring ++ o ∷ []) (next_none (0 + length ring) n (omega arith))
 
--- the next sibling of a last child
-pub next_comes : (numbers : List ℕ) (last n : ℕ) → 0 < last → 0 < n → links_said (slice_set numbers last n ++ 0 ∷ []) ≡ with_next (links_said numbers) (link_said last) n ++ None ∷ []
-next_comes numbers zero n h some = absurd (omega (arith, h))
-next_comes numbers (suc last) n h some = said_set numbers (suc last) n ∙ ap (λ o. slice_set (links_said numbers) (suc last) o ++ None ∷ []) (said_some n some)
+nexts_set_from : (k : ℕ) (ring : List ℕ) (i n : ℕ) → nexts_said k (slice_set ring i n) ≡ slice_set (nexts_said k ring) i (next_said (k + i) n)
+nexts_set_from k [] i n = refl
+nexts_set_from k (r ∷ rs) zero n = let same : k ≡ k + 0 = omega arith in ap (λ j. next_said j n ∷ nexts_said (suc k) rs) same
+nexts_set_from k (r ∷ rs) (suc i) n =
+    let same : suc k + i ≡ k + suc i = omega arith in
+    ap (λ l. next_said k r ∷ l) (nexts_set_from (suc k) rs i n ∙ ap (λ j. slice_set (nexts_said (suc k) rs) i (next_said j n)) same)
 
-pub all_set : (P : ℕ → Type 0) (numbers : List ℕ) (i n : ℕ) → AllByRecursion P numbers → P n → AllByRecursion P (slice_set numbers i n)
-all_set P [] i n h p = tt
-all_set P (x ∷ xs) zero n h p = (p, h.1)
-all_set P (x ∷ xs) (suc i) n h p = (h.0, all_set P xs i n h.1 p)
+-- a node that is followed by a greater one has it as its next sibling
+pub nexts_set : (ring : List ℕ) (i n : ℕ) → i < n → nexts_said 0 (slice_set ring i n) ≡ slice_set (nexts_said 0 ring) i (Some n)
+nexts_set ring i n h = nexts_set_from 0 ring i n ∙ ap (slice_set (nexts_said 0 ring) i) (next_some (0 + i) n (omega arith))
 
--- lists that are the same get the same child
-pub same_child : (old links new : LinkLists) (parent : ℕ) → old ≡ links → GetsChild old new parent → GetsChild links new parent
-same_child old links new parent e child = subst (λ l. GetsChild l new parent) e child
+-- ---- the root
+pub root_stays : (links : List (Option ℕ)) → 0 < length links → links ≡ rooted_links links
+root_stays [] h = absurd (omega arith)
+root_stays (l ∷ ls) h = refl

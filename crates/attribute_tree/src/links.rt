@@ -1,7 +1,7 @@
 //! The links of the nodes of the tree of attributes.
-ghost use Rattle.std.specs.Prelude.{◌≡◌, ◌<◌, ◌≤◌, ◌+◌, ◌++◌, ◌∷◌, [], None, Some, length, unwrap_or, get_or, slice_set, vec_len, vec_capacity, IsOk, OnOk};
-ghost use Rattle.attribute_tree.specs.Nodes.{with_next};
-ghost use Rattle.attribute_tree.specs.Links.{link_said, links_said, rooted_links, GetsChild};
+ghost use Rattle.std.specs.Prelude.{◌≡◌, ◌<◌, ◌≤◌, ◌+◌, ◌++◌, ◌∷◌, [], None, length, get_or, slice_set, vec_len, vec_capacity, IsOk, OnOk};
+ghost use Rattle.std.specs.List.{AllByRecursion};
+ghost use Rattle.attribute_tree.specs.Links.{firsts_said, nexts_said, with_ringed, rooted_links, GetsChild};
 
 use std::alloc::Global;
 use std::marker::Model;
@@ -10,24 +10,25 @@ use trace_types::OutOfMemory;
 // A node's number has 32 bits.
 const MOST_NODES: usize = 1 << 32;
 
-/// The first and the last child of each node, and its next sibling, by the nodes' numbers from 0.
-/// Node 0 is the root, which is nobody's child, so 0 says that there is none.
+/// The last child of each node by the nodes' numbers from 0, and the node after it in a ring: the
+/// children of a node stand in one, the last of them before the first. So a link that does not lead
+/// to a greater number goes back to the first child. Node 0 is the root, which is nobody's child, so
+/// 0 says that there is none.
 #[derive(Debug, Drop)]
 pub struct Links {
-    first_child: Vec<u32>,
     last_child: Vec<u32>,
-    next_sibling: Vec<u32>,
+    ring: Vec<u32>,
 }
 
 impl Model for Links {
     ghost use Rattle.std.specs.Prelude.{◌-◌, ◌^◌, min, vec_len, vec_capacity};
-    ghost use Rattle.attribute_tree.specs.Links.{LinkLists, AreComplete, links_said};
+    ghost use Rattle.attribute_tree.specs.Links.{LinkLists, AreRings, links_said, firsts_said, nexts_said};
 
     ghost Value = { LinkLists };
 
-    ghost view = { λ l. record { first = links_said l.first_child.items; last = links_said l.last_child.items; next = links_said l.next_sibling.items; room = min (2 ^ 32 - vec_len l.first_child) (min (vec_capacity l.first_child - vec_len l.first_child) (min (vec_capacity l.last_child - vec_len l.last_child) (vec_capacity l.next_sibling - vec_len l.next_sibling))) } };
+    ghost view = { λ l. record { first = firsts_said l.ring.items l.last_child.items; last = links_said l.last_child.items; next = nexts_said 0 l.ring.items; room = min (2 ^ 32 - vec_len l.last_child) (min (vec_capacity l.last_child - vec_len l.last_child) (vec_capacity l.ring - vec_len l.ring)) } };
 
-    ghost invariant = { λ l. AreComplete l.first_child.items l.last_child.items l.next_sibling.items };
+    ghost invariant = { λ l. AreRings l.last_child.items l.ring.items };
 }
 
 impl Links {
@@ -38,9 +39,8 @@ impl Links {
         ensures next { result.next ≡ [] }
     {
         Links {
-            first_child: Vec::new(alloc),
             last_child: Vec::new(alloc),
-            next_sibling: Vec::new(alloc),
+            ring: Vec::new(alloc),
         }
     }
 
@@ -53,12 +53,11 @@ impl Links {
         ensures room { OnOk result (more ≤ self.new.room) }
         ensures succeeds { more ≤ self.old.room → IsOk result }
     {
-        if more > MOST_NODES.saturating_sub(self.first_child.len()) {
+        if more > MOST_NODES.saturating_sub(self.last_child.len()) {
             return Err(OutOfMemory);
         }
-        self.first_child.reserve(more)?;
         self.last_child.reserve(more)?;
-        self.next_sibling.reserve(more)?;
+        self.ring.reserve(more)?;
         Ok(())
     }
 
@@ -70,10 +69,9 @@ impl Links {
         ensures next { self.new.next ≡ rooted_links self.old.next }
         ensures room { self.old.room ≤ self.new.room + 1 }
     {
-        if self.first_child.is_empty() {
-            self.first_child.push_reserved(0);
+        if self.last_child.is_empty() {
             self.last_child.push_reserved(0);
-            self.next_sibling.push_reserved(0);
+            self.ring.push_reserved(0);
         }
     }
 
@@ -85,12 +83,11 @@ impl Links {
         ensures links { GetsChild self.old self.new parent }
         ensures room { self.old.room ≤ self.new.room + 1 }
     {
-        let node = self.first_child.len() as u32;
+        let node = self.last_child.len() as u32;
         let parent = parent as usize;
         let last = self.last_child[parent];
-        link_first(&mut self.first_child, parent, node);
         link_last(&mut self.last_child, parent, node);
-        link_next(&mut self.next_sibling, last, node);
+        link_ring(&mut self.ring, last, node);
         node
     }
 
@@ -98,43 +95,41 @@ impl Links {
     pub fn first_child(&self, node: usize) -> Option<usize>
         ensures { result ≡ get_or self.now.first node None }
     {
-        link_at(&self.first_child, node)
+        first_at(&self.last_child, &self.ring, node)
     }
 
     /// The next sibling of a node.
     pub fn next_sibling(&self, node: usize) -> Option<usize>
         ensures { result ≡ get_or self.now.next node None }
     {
-        link_at(&self.next_sibling, node)
+        next_at(&self.ring, node)
     }
 }
 
-// The link of a node, and none where it is no node.
-fn link_at(links: &[u32], node: usize) -> Option<usize>
-    ensures { result ≡ get_or (links_said links.now) node None }
+// The first child of a node, which comes after its last one in the ring; none where it is no node.
+fn first_at(last_child: &[u32], ring: &[u32], node: usize) -> Option<usize>
+    requires within { AllByRecursion (λ n. n < length ring.now) last_child.now }
+    ensures { result ≡ get_or (firsts_said ring.now last_child.now) node None }
 {
-    if node >= links.len() {
+    if node >= last_child.len() {
         return None;
     }
-    match links[node] {
+    match last_child[node] {
         0 => None,
-        other => Some(other as usize),
+        last => Some(ring[last as usize] as usize),
     }
 }
 
-// The parent's first child so far stays, and the new node has none.
-fn link_first(first: &mut Vec<u32>, parent: usize, node: u32)
-    requires parent { parent < length first.old.items }
-    requires node { 0 < node }
-    requires room { vec_len first.old < vec_capacity first.old }
-    ensures links { links_said first.new.items ≡ slice_set (links_said first.old.items) parent (Some (unwrap_or (get_or (links_said first.old.items) parent None) node)) ++ None ∷ [] }
-    ensures room { vec_capacity first.old ≤ vec_capacity first.new }
-    ensures len { vec_len first.new ≡ vec_len first.old + 1 }
+// The next sibling of a node, which comes after it in the ring; none where that goes back to the
+// first, and where it is no node.
+fn next_at(ring: &[u32], node: usize) -> Option<usize>
+    ensures { result ≡ get_or (nexts_said 0 ring.now) node None }
 {
-    if first[parent] == 0 {
-        first[parent] = node;
+    if node >= ring.len() {
+        return None;
     }
-    first.push_reserved(0);
+    let next = ring[node] as usize;
+    (node < next).then_some(next)
 }
 
 // The new node is the parent's last child.
@@ -149,17 +144,20 @@ fn link_last(last: &mut Vec<u32>, parent: usize, node: u32)
     last.push_reserved(0);
 }
 
-// The last child so far is followed by the new one.
-fn link_next(next: &mut Vec<u32>, last: u32, node: u32)
-    requires last { last < length next.old.items }
-    requires node { 0 < node }
-    requires room { vec_len next.old < vec_capacity next.old }
-    ensures links { links_said next.new.items ≡ with_next (links_said next.old.items) (link_said last) node ++ None ∷ [] }
-    ensures room { vec_capacity next.old ≤ vec_capacity next.new }
-    ensures len { vec_len next.new ≡ vec_len next.old + 1 }
+// The last child so far is followed by the new one, and that by the first. An only child is
+// followed by itself.
+fn link_ring(ring: &mut Vec<u32>, last: u32, node: u32)
+    requires last { last < length ring.old.items }
+    requires room { vec_len ring.old < vec_capacity ring.old }
+    ensures items { ring.new.items ≡ with_ringed ring.old.items last node }
+    ensures room { vec_capacity ring.old ≤ vec_capacity ring.new }
+    ensures len { vec_len ring.new ≡ vec_len ring.old + 1 }
 {
-    if last > 0 {
-        next[last as usize] = node;
+    if last == 0 {
+        ring.push_reserved(node);
+        return;
     }
-    next.push_reserved(0);
+    let first = ring[last as usize];
+    ring[last as usize] = node;
+    ring.push_reserved(first);
 }
