@@ -1,6 +1,7 @@
 pub mod Pushed
 pub mod Times
 pub mod Closing
+pub mod Untagged
 pub mod Keeping
 pub mod Standing
 pub mod Answering

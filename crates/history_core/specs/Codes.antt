@@ -11,11 +11,8 @@ use Rattle.trace_types.specs.contracts.value.Value as value
 use Rattle.history_tree.specs.Tree.{NodeTree}
 use Rattle.history_tree.specs.contracts.tree.Tree as tree
 use Rattle.history_core.specs.declared.closed.Since.{Since}
+use Rattle.history_core.specs.Opened.{since_code}
 use Rattle.history_core.specs.Stands.{HistoryModel}
-
--- a value since a time, as a pair
-abbrev pub since_code : Coded Since
-since_code = code_by (ℕ × Value) (coded× coded_ℕ value.the_row.coded) (λ s. (s.start, s.value)) (λ p. record { start = p.0; value = p.1 }) (λ _. refl)
 
 -- what contracts see of a history, as a tuple
 abbrev pub kept_code : Coded HistoryModel

@@ -4,6 +4,7 @@ ghost use Rattle.trace_types.specs.declared.limits.TheConstants.{TIME_END};
 ghost use Rattle.history_tree.specs.Records.{content_of};
 ghost use Rattle.history_core.specs.Intervals.{closes, closing, open_at, EndBefore, IsClosing, IsHeldValue, IsTreeAfter};
 
+use crate::opened::OpenIntervals;
 use history_nodes::{Interval, Reads};
 use history_tree::Tree;
 use trace_types::{OutOfMemory, Value};
@@ -42,20 +43,21 @@ impl Since {
 /// is empty or has no value. When memory runs out, nothing has changed.
 pub fn change(
     tree: &mut Tree,
-    opened: &mut [Option<Since>],
+    opened: &mut OpenIntervals,
     number: usize,
     since: &Since,
 ) -> Result<(), OutOfMemory>
-    requires number { number < length opened.old }
+    requires number { number < length opened.old.intervals }
     requires within { since.now.start < TIME_END }
-    requires older { EndBefore (content_of tree.old.nodes) number (open_at opened.old number) }
-    ensures closed { OnOk result (content_of tree.new.nodes ≡ closing (content_of tree.old.nodes) number since.now.start (open_at opened.old number)) }
-    ensures placed { OnOk result (IsTreeAfter tree.old number since.now.start (open_at opened.old number) tree.new) }
-    ensures opened { OnOk result (opened.new ≡ slice_set opened.old number (Some since.now)) }
+    requires older { EndBefore (content_of tree.old.nodes) number (open_at opened.old.intervals number) }
+    ensures closed { OnOk result (content_of tree.new.nodes ≡ closing (content_of tree.old.nodes) number since.now.start (open_at opened.old.intervals number)) }
+    ensures placed { OnOk result (IsTreeAfter tree.old number since.now.start (open_at opened.old.intervals number) tree.new) }
+    ensures opened { OnOk result (opened.new.intervals ≡ slice_set opened.old.intervals number (Some since.now)) }
     ensures err { OnErr result ((tree.new ≡ tree.old) × (opened.new ≡ opened.old)) }
 {
-    close(tree, number, since.start, &opened[number])?;
-    opened[number] = Some(*since);
+    let before = opened.get(number);
+    close(tree, number, since.start, &before)?;
+    opened.set(number, since);
     Ok(())
 }
 

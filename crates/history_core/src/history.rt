@@ -11,6 +11,7 @@ ghost use Rattle.history_core.specs.declared.question.Answer.TheVariants.{State,
 ghost use Rattle.trace_types.specs.declared.value.Value.{Value};
 
 use crate::closed::{Since, change, value_held};
+use crate::opened::OpenIntervals;
 use crate::question::Answer;
 use attribute_tree::Attributes;
 use history_tree::Tree;
@@ -26,7 +27,7 @@ use trace_types::{OutOfMemory, Path, TIME_END, Value};
 pub struct History {
     attributes: Attributes,
     tree: Tree,
-    opened: Vec<Option<Since>>,
+    opened: OpenIntervals,
     count: u64,
     built: u64,
 }
@@ -41,9 +42,9 @@ impl Model for History {
 
     ghost coded = { kept_code };
 
-    ghost view = { λ h. kept_of h.attributes.paths h.tree h.opened.items h.count h.built };
+    ghost view = { λ h. kept_of h.attributes.paths h.tree h.opened.intervals h.count h.built };
 
-    ghost invariant = { λ h. AreKept h.attributes.paths (content_of h.tree.nodes) h.opened.items h.built };
+    ghost invariant = { λ h. AreKept h.attributes.paths (content_of h.tree.nodes) h.opened.intervals h.built };
 }
 
 impl History {
@@ -55,7 +56,7 @@ impl History {
         Ok(History {
             attributes: Attributes::new(alloc),
             tree: Tree::new(alloc)?,
-            opened: Vec::new(alloc),
+            opened: OpenIntervals::new(alloc),
             count: 0,
             built: 0,
         })
@@ -123,22 +124,22 @@ impl History {
 fn take(
     attributes: &mut Attributes,
     tree: &mut Tree,
-    opened: &mut Vec<Option<Since>>,
+    opened: &mut OpenIntervals,
     built: &mut u64,
     step: &Step,
 ) -> Result<(), OutOfMemory>
-    requires kept { AreKept attributes.old.paths (content_of tree.old.nodes) opened.old.items built.old }
+    requires kept { AreKept attributes.old.paths (content_of tree.old.nodes) opened.old.intervals built.old }
     requires follows { CanFollow attributes.old.paths built.old step.now }
-    ensures ok { OnOk result (parts_of attributes.new.paths (content_of tree.new.nodes) opened.new.items built.new ≡ taken (parts_of attributes.old.paths (content_of tree.old.nodes) opened.old.items built.old) step.now) }
-    ensures tree { OnOk result (IsTreeAfterStep tree.old opened.old.items step.now tree.new) }
-    ensures err { OnErr result ((attributes.new.paths ≡ attributes.old.paths) × (tree.new ≡ tree.old) × (opened.new.items ≡ opened.old.items) × (built.new ≡ built.old)) }
+    ensures ok { OnOk result (parts_of attributes.new.paths (content_of tree.new.nodes) opened.new.intervals built.new ≡ taken (parts_of attributes.old.paths (content_of tree.old.nodes) opened.old.intervals built.old) step.now) }
+    ensures tree { OnOk result (IsTreeAfterStep tree.old opened.old.intervals step.now tree.new) }
+    ensures err { OnErr result ((attributes.new.paths ≡ attributes.old.paths) × (tree.new ≡ tree.old) × (opened.new.intervals ≡ opened.old.intervals) × (built.new ≡ built.old)) }
 {
     match *step {
         Step::Advance(t) => *built = t,
         Step::Add(path) => {
-            opened.reserve(1)?;
+            opened.reserve()?;
             attributes.add(path)?;
-            opened.push_reserved(None);
+            opened.push_none();
         }
         Step::Change { t, number, value } => {
             let since = Since { start: t, value };
@@ -150,12 +151,12 @@ fn take(
 }
 
 // The value of a number at an instant.
-fn value_at(tree: &Tree, opened: &[Option<Since>], number: usize, t: u64) -> Value
-    requires number { number < length opened.now }
+fn value_at(tree: &Tree, opened: &OpenIntervals, number: usize, t: u64) -> Value
+    requires number { number < length opened.now.intervals }
     requires time { t < TIME_END }
-    ensures { IsValueIn (content_of tree.now.nodes) opened.now number t result }
+    ensures { IsValueIn (content_of tree.now.nodes) opened.now.intervals number t result }
 {
-    match &opened[number] {
+    match opened.get(number) {
         Some(since) if since.start <= t => since.value,
         _ => value_held(tree, number, t),
     }
@@ -263,11 +264,11 @@ mod tests {
         } = History::new(rt.alloc())?;
         let attributes: Attributes = attributes;
         let tree: Tree = tree;
-        let opened: Vec<Option<Since>> = opened;
+        let opened: OpenIntervals = opened;
         let numbers: (u64, u64) = (count, built);
         assert!(rt; attributes.is_empty());
         assert_eq!(rt; tree.levels(), 1);
-        assert!(rt; opened.is_empty());
+        assert_eq!(rt; opened.len(), 0);
         assert_eq!(rt; numbers, (0, 0));
         Ok(())
     }

@@ -4,6 +4,7 @@
 mod closed;
 mod history;
 mod laws;
+mod opened;
 mod question;
 mod whole;
 

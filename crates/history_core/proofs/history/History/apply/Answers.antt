@@ -10,11 +10,11 @@ pub invariant_of-self-2 : goal.invariant_of-self-2
 invariant_of-self-2 c =
     let follows = subst (λ (h : HistoryModel). CanFollow h.paths h.built c.args.step) (sym c.self.view_is) c.requires.follows in
     subst (λ (p : Parts). AreKept p.paths p.closed p.opened p.built) (sym c.in_ok-take.ensures.ok)
-    (kept_taken (parts_of c.self.inside.attributes.paths (content_of c.self.inside.tree.nodes) c.self.inside.opened.items c.self.inside.built) c.args.step c.self.invariant follows)
+    (kept_taken (parts_of c.self.inside.attributes.paths (content_of c.self.inside.tree.nodes) c.self.inside.opened.intervals c.self.inside.built) c.args.step c.self.invariant follows)
 
 pub returns-clause-stands : goal.returns-clause-stands
 returns-clause-stands c = λ steps stands.
     let follows = subst (λ (h : HistoryModel). CanFollow h.paths h.built c.args.step) (sym c.self.view_is) c.requires.follows in
     let tree = c.take.new.tree in
     subst (λ (p : Parts). Stands (steps ++ c.args.step ∷ []) (with_parts p (c.self.inside.count + 1) tree)) (sym c.in_ok-take.ensures.ok)
-    (stands_taken (parts_of c.self.inside.attributes.paths (content_of c.self.inside.tree.nodes) c.self.inside.opened.items c.self.inside.built) c.self.inside.count steps c.self.inside.tree tree c.self.invariant (subst (Stands steps) (sym c.self.view_is) stands) c.args.step follows)
+    (stands_taken (parts_of c.self.inside.attributes.paths (content_of c.self.inside.tree.nodes) c.self.inside.opened.intervals c.self.inside.built) c.self.inside.count steps c.self.inside.tree tree c.self.invariant (subst (Stands steps) (sym c.self.view_is) stands) c.args.step follows)
