@@ -1,3 +1,5 @@
 pub mod Names
 pub mod AlikeKinds
 pub mod PassedOver
+pub mod KnownNames
+pub mod FirstChosen

@@ -1,3 +1,4 @@
+pub mod Sought
 pub mod Tracepoints
 pub mod Needed
 pub mod Skips

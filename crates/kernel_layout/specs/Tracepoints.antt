@@ -7,6 +7,8 @@ use Rattle.type_table.specs.TraceMetas.{TraceMetaModel}
 use Rattle.read_plan.specs.FixedSizes.{sizes_of}
 use Rattle.read_plan.specs.Lone.{headers_are_lone}
 use Rattle.kernel_layout.specs.Skips.{skip_of}
+use Rattle.kernel_layout.specs.Sought.{known_of}
+use Rattle.kernel_layout.specs.declared.sought.Sought.{Sought}
 use Rattle.trace_types.specs.declared.event_kind.EventKind.{EventKind}
 use Rattle.trace_types.specs.declared.event_kind.EventKind.TheVariants as event_kind
 
@@ -59,15 +61,16 @@ kind_named name = first_of (scheduler_kind name) (first_of (interrupt_kind name)
 abbrev pub kinds_of : TraceMetaModel → List EventKind
 kinds_of meta = map kind_named meta.declared.event_names
 
--- the kind of each event name, for each event how many bits of it may be passed over, and whether no type looks into the headers of events
+-- the kind of each event name, for each event how many bits of it may be passed over, whether no type looks into the headers of events, and which names of fields are those that kinds are told by
 pub record LayoutModel : Type 0 where
   pub kinds : List EventKind
   pub skips : List (Option ℕ)
   pub lone : Bool
+  pub known : List (Option Sought)
 
 abbrev pub skips_of : TraceMetaModel → List (Option ℕ)
 skips_of meta = map (λ e. skip_of (kinds_of meta) (sizes_of meta.table) e.1) meta.declared.events
 
 -- what is decided once for all events of a trace
 abbrev pub layout_of : TraceMetaModel → LayoutModel
-layout_of meta = record { kinds = kinds_of meta; skips = skips_of meta; lone = headers_are_lone meta.table }
+layout_of meta = record { kinds = kinds_of meta; skips = skips_of meta; lone = headers_are_lone meta.table; known = known_of meta.table.names }

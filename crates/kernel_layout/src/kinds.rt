@@ -1,11 +1,13 @@
 //! The kinds of events, by their names and fields.
 ghost use Rattle.std.specs.Prelude.{◌≡◌};
 ghost use Rattle.kernel_layout.specs.Kinds.{event_of, fork, kind_of, migrate, name_of, other_event_of, process, disk_request, switch, wakeup_fields};
+ghost use Rattle.kernel_layout.specs.Sought.{known_of};
 ghost use Rattle.kernel_layout.specs.Tracepoints.{layout_of};
 
 use crate::layout::Layout;
 use crate::needed::{Fields, comm, of_32, of_64, priority, small, state};
 use crate::segments::segment;
+use crate::sought::Sought;
 use ctf_fields::RawEvent;
 use trace_types::{EventKind, KernelEvent, Request, Woken};
 use type_table::TraceMeta;
@@ -19,6 +21,7 @@ pub fn kind_of(meta: &TraceMeta, layout: &Layout, raw: &RawEvent) -> (KernelEven
     let name = name_of(meta, raw.event);
     let fields = Fields {
         table: meta.table(),
+        known: layout.known(),
         root: &raw.fields,
     };
     match event_of(layout.of(name), name, fields) {
@@ -39,6 +42,7 @@ fn name_of(meta: &TraceMeta, index: u32) -> u32
 
 // The event of a kind, where all fields are there that it needs.
 fn event_of(kind: EventKind, name: u32, fields: Fields<'_>) -> Option<KernelEvent>
+    requires { fields.known.now ≡ known_of fields.table.now.names }
     ensures { result ≡ event_of kind name fields.entry.table.now fields.entry.root.now }
 {
     match kind {
@@ -55,26 +59,27 @@ fn event_of(kind: EventKind, name: u32, fields: Fields<'_>) -> Option<KernelEven
 
 // The event of a kind that has one number, or a call, a segment or a request.
 fn other_event_of(kind: EventKind, name: u32, fields: Fields<'_>) -> Option<KernelEvent>
+    requires { fields.known.now ≡ known_of fields.table.now.names }
     ensures { result ≡ other_event_of kind name fields.entry.table.now fields.entry.root.now }
 {
     Some(match kind {
         EventKind::Exit => KernelEvent::Exit {
-            tid: small(fields, b"tid")?,
+            tid: small(fields, Sought::Tid)?,
         },
         EventKind::Free => KernelEvent::Free {
-            tid: small(fields, b"tid")?,
+            tid: small(fields, Sought::Tid)?,
         },
         EventKind::IrqIn => KernelEvent::IrqIn {
-            irq: small(fields, b"irq")?,
+            irq: small(fields, Sought::Irq)?,
         },
         EventKind::IrqOut => KernelEvent::IrqOut {
-            irq: small(fields, b"irq")?,
+            irq: small(fields, Sought::Irq)?,
         },
         EventKind::SoftIn => KernelEvent::SoftIn {
-            vec: small(fields, b"vec")?,
+            vec: small(fields, Sought::Vec)?,
         },
         EventKind::SoftOut => KernelEvent::SoftOut {
-            vec: small(fields, b"vec")?,
+            vec: small(fields, Sought::Vec)?,
         },
         EventKind::CallIn => KernelEvent::CallIn { name },
         EventKind::CallOut => KernelEvent::CallOut { name },
@@ -91,15 +96,16 @@ fn other_event_of(kind: EventKind, name: u32, fields: Fields<'_>) -> Option<Kern
 }
 
 fn switch(fields: Fields<'_>) -> Option<KernelEvent>
+    requires { fields.known.now ≡ known_of fields.table.now.names }
     ensures { result ≡ switch fields.entry.table.now fields.entry.root.now }
 {
-    let prev_state = state(fields, b"prev_state")?;
-    let prev_tid = small(fields, b"prev_tid")?;
-    let next_tid = small(fields, b"next_tid")?;
-    let prev_prio = priority(fields, b"prev_prio")?;
-    let next_prio = priority(fields, b"next_prio")?;
-    let prev_comm = comm(fields, b"prev_comm")?;
-    let next_comm = comm(fields, b"next_comm")?;
+    let prev_state = state(fields, Sought::PrevState)?;
+    let prev_tid = small(fields, Sought::PrevTid)?;
+    let next_tid = small(fields, Sought::NextTid)?;
+    let prev_prio = priority(fields, Sought::PrevPrio)?;
+    let next_prio = priority(fields, Sought::NextPrio)?;
+    let prev_comm = comm(fields, Sought::PrevComm)?;
+    let next_comm = comm(fields, Sought::NextComm)?;
     Some(KernelEvent::Switch {
         prev_state,
         prev_tid,
@@ -112,12 +118,13 @@ fn switch(fields: Fields<'_>) -> Option<KernelEvent>
 }
 
 fn wakeup_fields(fields: Fields<'_>) -> Option<Woken>
+    requires { fields.known.now ≡ known_of fields.table.now.names }
     ensures { result ≡ wakeup_fields fields.entry.table.now fields.entry.root.now }
 {
-    let tid = small(fields, b"tid")?;
-    let comm = comm(fields, b"comm")?;
-    let prio = priority(fields, b"prio")?;
-    let target_cpu = small(fields, b"target_cpu")?;
+    let tid = small(fields, Sought::Tid)?;
+    let comm = comm(fields, Sought::Comm)?;
+    let prio = priority(fields, Sought::Prio)?;
+    let target_cpu = small(fields, Sought::TargetCpu)?;
     Some(Woken {
         tid,
         comm,
@@ -127,11 +134,12 @@ fn wakeup_fields(fields: Fields<'_>) -> Option<Woken>
 }
 
 fn fork(fields: Fields<'_>) -> Option<KernelEvent>
+    requires { fields.known.now ≡ known_of fields.table.now.names }
     ensures { result ≡ fork fields.entry.table.now fields.entry.root.now }
 {
-    let parent_tid = small(fields, b"parent_tid")?;
-    let child_tid = small(fields, b"child_tid")?;
-    let child_comm = comm(fields, b"child_comm")?;
+    let parent_tid = small(fields, Sought::ParentTid)?;
+    let child_tid = small(fields, Sought::ChildTid)?;
+    let child_comm = comm(fields, Sought::ChildComm)?;
     Some(KernelEvent::Fork {
         parent_tid,
         child_tid,
@@ -140,20 +148,22 @@ fn fork(fields: Fields<'_>) -> Option<KernelEvent>
 }
 
 fn migrate(fields: Fields<'_>) -> Option<KernelEvent>
+    requires { fields.known.now ≡ known_of fields.table.now.names }
     ensures { result ≡ migrate fields.entry.table.now fields.entry.root.now }
 {
-    let tid = small(fields, b"tid")?;
-    let dest_cpu = small(fields, b"dest_cpu")?;
+    let tid = small(fields, Sought::Tid)?;
+    let dest_cpu = small(fields, Sought::DestCpu)?;
     Some(KernelEvent::Migrate { tid, dest_cpu })
 }
 
 fn process(fields: Fields<'_>) -> Option<KernelEvent>
+    requires { fields.known.now ≡ known_of fields.table.now.names }
     ensures { result ≡ process fields.entry.table.now fields.entry.root.now }
 {
-    let tid = small(fields, b"tid")?;
-    let ppid = small(fields, b"ppid")?;
-    let name = comm(fields, b"name")?;
-    let status = small(fields, b"status")?;
+    let tid = small(fields, Sought::Tid)?;
+    let ppid = small(fields, Sought::Ppid)?;
+    let name = comm(fields, Sought::Name)?;
+    let status = small(fields, Sought::Status)?;
     Some(KernelEvent::Process {
         tid,
         ppid,
@@ -163,11 +173,12 @@ fn process(fields: Fields<'_>) -> Option<KernelEvent>
 }
 
 fn disk_request(fields: Fields<'_>) -> Option<Request>
+    requires { fields.known.now ≡ known_of fields.table.now.names }
     ensures { result ≡ disk_request fields.entry.table.now fields.entry.root.now }
 {
-    let sector = of_64(fields, b"sector")?;
-    let dev = of_32(fields, b"dev")?;
-    let nr_sector = of_32(fields, b"nr_sector")?;
+    let sector = of_64(fields, Sought::Sector)?;
+    let dev = of_32(fields, Sought::Dev)?;
+    let nr_sector = of_32(fields, Sought::NrSector)?;
     Some(Request {
         sector,
         dev,

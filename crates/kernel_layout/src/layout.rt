@@ -5,6 +5,8 @@ ghost use Rattle.read_plan.specs.Lone.{IsLone, headers_are_lone};
 ghost use Rattle.kernel_layout.specs.Skips.{kind_at, needs_fields, skip_of};
 ghost use Rattle.kernel_layout.specs.Tracepoints.{kinds_of, layout_of, skips_of};
 
+use crate::known::known_of;
+use crate::sought::Sought;
 use crate::tracepoint::kind_named;
 use read_plan::{FixedSize, fixed_sizes, headers_are_lone, size_at};
 use std::alloc::Global;
@@ -12,13 +14,15 @@ use std::marker::Model;
 use trace_types::{EventKind, OutOfMemory};
 use type_table::{EventParts, TraceMeta};
 
-/// The kind of each event name of a trace, how many bits of each event may be passed over, and whether any type looks into
-/// the headers of events, decided once. Contracts see the lists and that answer.
+/// The kind of each event name of a trace, how many bits of each event may be passed over, whether any type looks into the
+/// headers of events, and which names of fields are those that kinds are told by, decided once. Contracts see the lists and
+/// that answer.
 #[derive(Debug, Drop)]
 pub struct Layout {
     kinds: Vec<EventKind>,
     skips: Vec<Option<u64>>,
     lone: bool,
+    known: Vec<Option<Sought>>,
 }
 
 impl Model for Layout {
@@ -26,7 +30,7 @@ impl Model for Layout {
 
     ghost Value = { LayoutModel };
 
-    ghost view = { λ l. record { kinds = l.kinds.items; skips = l.skips.items; lone = l.lone } };
+    ghost view = { λ l. record { kinds = l.kinds.items; skips = l.skips.items; lone = l.lone; known = l.known.items } };
 }
 
 impl Layout {
@@ -38,7 +42,13 @@ impl Layout {
         let kinds = kinds_of(alloc, meta)?;
         let skips = skips_of(alloc, meta, kinds.as_slice())?;
         let lone = headers_are_lone(meta.table())?;
-        Ok(Layout { kinds, skips, lone })
+        let known = known_of(alloc, meta.table())?;
+        Ok(Layout {
+            kinds,
+            skips,
+            lone,
+            known,
+        })
     }
 
     /// For each event that the trace declares how many bits its fields take, where they may be passed over: its kind
@@ -62,6 +72,13 @@ impl Layout {
     {
         let _ = meta;
         self.lone
+    }
+
+    /// For each name of a field, by its number, the one that it counts as of those that kinds are told by.
+    pub(crate) fn known(&self) -> &[Option<Sought>]
+        ensures { result.now ≡ self.now.known }
+    {
+        self.known.as_slice()
     }
 
     /// The kind of the name of this number.

@@ -2,9 +2,11 @@
 #![tactic(auto)]
 
 mod kinds;
+mod known;
 mod layout;
 mod needed;
 mod segments;
+mod sought;
 mod tracepoint;
 
 pub use kinds::kind_of;

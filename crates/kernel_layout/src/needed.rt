@@ -3,74 +3,87 @@ ghost use Rattle.std.specs.Prelude.{◌≡◌, Some, map, neg_ℤ, pos, take};
 ghost use Rattle.std.specs.Option.{option_copied};
 ghost use Rattle.ctf_fields.specs.Reading.{integer_type};
 ghost use Rattle.trace_types.specs.Padding.{name_in};
+ghost use Rattle.kernel_layout.specs.Sought.{known_of, text_of};
 ghost use Rattle.kernel_layout.specs.Needed.{between, byte_of, comm, comm_in, is_byte, number, of_16, of_32, of_64, small};
 
-use ctf_fields::{Field, below, below_64, first_named, integer_type, value_named};
+use crate::known::first_known;
+use crate::sought::Sought;
+use ctf_fields::{Field, below, below_64, integer_type, number_of};
 use trace_types::Comm;
 use type_table::Table;
 
-/// The fields of an event, and the table that has the names of fields.
+/// The fields of an event, the table that has the names of fields, and what is known of these names.
 #[derive(Clone, Copy)]
 pub struct Fields<'a> {
     pub table: &'a Table,
+    pub known: &'a [Option<Sought>],
     pub root: &'a Field,
 }
 
-fn number(fields: Fields<'_>, name: &[u8]) -> Option<i128>
-    ensures { result ≡ number fields.entry.table.now fields.entry.root.now name.now }
+fn number(fields: Fields<'_>, name: Sought) -> Option<i128>
+    requires { fields.known.now ≡ known_of fields.table.now.names }
+    ensures { result ≡ number fields.entry.table.now fields.entry.root.now (text_of name) }
 {
-    value_named(fields.table, name, Some(fields.root))
+    let (value, _) = number_of(first_known(fields.table, fields.known, name, fields.root))?;
+    Some(value)
 }
 
 /// A tid, a processor, an interrupt or a status: 0 to 2^31 - 1.
-pub fn small(fields: Fields<'_>, name: &[u8]) -> Option<u32>
-    ensures { result ≡ small fields.entry.table.now fields.entry.root.now name.now }
+pub fn small(fields: Fields<'_>, name: Sought) -> Option<u32>
+    requires { fields.known.now ≡ known_of fields.table.now.names }
+    ensures { result ≡ small fields.entry.table.now fields.entry.root.now (text_of name) }
 {
     Some(below(number(fields, name), 1 << 31)? as u32)
 }
 
 /// A number of 16 bits without a sign.
-pub fn of_16(fields: Fields<'_>, name: &[u8]) -> Option<u16>
-    ensures { result ≡ of_16 fields.entry.table.now fields.entry.root.now name.now }
+pub fn of_16(fields: Fields<'_>, name: Sought) -> Option<u16>
+    requires { fields.known.now ≡ known_of fields.table.now.names }
+    ensures { result ≡ of_16 fields.entry.table.now fields.entry.root.now (text_of name) }
 {
     Some(below(number(fields, name), 1 << 16)? as u16)
 }
 
 /// A number of 32 bits without a sign.
-pub fn of_32(fields: Fields<'_>, name: &[u8]) -> Option<u32>
-    ensures { result ≡ of_32 fields.entry.table.now fields.entry.root.now name.now }
+pub fn of_32(fields: Fields<'_>, name: Sought) -> Option<u32>
+    requires { fields.known.now ≡ known_of fields.table.now.names }
+    ensures { result ≡ of_32 fields.entry.table.now fields.entry.root.now (text_of name) }
 {
     Some(below(number(fields, name), 1 << 32)? as u32)
 }
 
 /// A number of 64 bits without a sign.
-pub fn of_64(fields: Fields<'_>, name: &[u8]) -> Option<u64>
-    ensures { result ≡ of_64 fields.entry.table.now fields.entry.root.now name.now }
+pub fn of_64(fields: Fields<'_>, name: Sought) -> Option<u64>
+    requires { fields.known.now ≡ known_of fields.table.now.names }
+    ensures { result ≡ of_64 fields.entry.table.now fields.entry.root.now (text_of name) }
 {
     below_64(number(fields, name))
 }
 
 /// A priority: a number of 32 bits with a sign.
-pub fn priority(fields: Fields<'_>, name: &[u8]) -> Option<i32>
-    ensures { result ≡ between (neg_ℤ (pos 2147483648)) (pos 2147483647) (number fields.entry.table.now fields.entry.root.now name.now) }
+pub fn priority(fields: Fields<'_>, name: Sought) -> Option<i32>
+    requires { fields.known.now ≡ known_of fields.table.now.names }
+    ensures { result ≡ between (neg_ℤ (pos 2147483648)) (pos 2147483647) (number fields.entry.table.now fields.entry.root.now (text_of name)) }
 {
     i32::try_from(number(fields, name)?).ok()
 }
 
 /// A thread's state: a number of 64 bits with a sign.
-pub fn state(fields: Fields<'_>, name: &[u8]) -> Option<i64>
-    ensures { result ≡ between (neg_ℤ (pos 9223372036854775808)) (pos 9223372036854775807) (number fields.entry.table.now fields.entry.root.now name.now) }
+pub fn state(fields: Fields<'_>, name: Sought) -> Option<i64>
+    requires { fields.known.now ≡ known_of fields.table.now.names }
+    ensures { result ≡ between (neg_ℤ (pos 9223372036854775808)) (pos 9223372036854775807) (number fields.entry.table.now fields.entry.root.now (text_of name)) }
 {
     i64::try_from(number(fields, name)?).ok()
 }
 
 /// A thread's name, which is cut where it is longer than the kernel's.
-pub fn comm(fields: Fields<'_>, name: &[u8]) -> Option<Comm>
-    ensures { result ≡ comm fields.entry.table.now fields.entry.root.now name.now }
+pub fn comm(fields: Fields<'_>, name: Sought) -> Option<Comm>
+    requires { fields.known.now ≡ known_of fields.table.now.names }
+    ensures { result ≡ comm fields.entry.table.now fields.entry.root.now (text_of name) }
 {
     comm_in(
         fields.table,
-        first_named(fields.table, name, Some(fields.root)),
+        first_known(fields.table, fields.known, name, fields.root),
     )
 }
 

@@ -5,22 +5,26 @@ ghost use Rattle.ctf_fields.specs.Fields.{number_of};
 ghost use Rattle.ctf_fields.specs.Leaves.{IsReadable};
 ghost use Rattle.kernel_layout.specs.Kinds.{ports, segment};
 ghost use Rattle.kernel_layout.specs.Needed.{address, address_in, followed, joined, list_address, lone_address};
+ghost use Rattle.kernel_layout.specs.Sought.{known_of, text_of};
 
+use crate::known::first_known;
 use crate::needed::{Fields, of_16, of_32};
-use ctf_fields::{Field, below_64, first_named, integer_type};
+use crate::sought::Sought;
+use ctf_fields::{Field, below_64, integer_type};
 use trace_types::SegKey;
 use type_table::{Integer, Table};
 
 /// What tells a segment from others.
 pub fn segment(fields: Fields<'_>) -> Option<SegKey>
+    requires { fields.known.now ≡ known_of fields.table.now.names }
     ensures { result ≡ segment fields.entry.table.now fields.entry.root.now }
 {
-    let saddr = address(fields, b"saddr")?;
-    let daddr = address(fields, b"daddr")?;
+    let saddr = address(fields, Sought::Saddr)?;
+    let daddr = address(fields, Sought::Daddr)?;
     let (source_port, dest_port) = ports(fields)?;
-    let seq = of_32(fields, b"seq")?;
-    let ack_seq = of_32(fields, b"ack_seq")?;
-    let flags = of_16(fields, b"flags")?;
+    let seq = of_32(fields, Sought::Seq)?;
+    let ack_seq = of_32(fields, Sought::AckSeq)?;
+    let flags = of_16(fields, Sought::Flags)?;
     Some(SegKey {
         saddr,
         daddr,
@@ -34,18 +38,23 @@ pub fn segment(fields: Fields<'_>) -> Option<SegKey>
 
 // The ports that a segment goes from and to.
 fn ports(fields: Fields<'_>) -> Option<(u16, u16)>
+    requires { fields.known.now ≡ known_of fields.table.now.names }
     ensures { result ≡ ports fields.entry.table.now fields.entry.root.now }
 {
-    Some((of_16(fields, b"source_port")?, of_16(fields, b"dest_port")?))
+    Some((
+        of_16(fields, Sought::SourcePort)?,
+        of_16(fields, Sought::DestPort)?,
+    ))
 }
 
 // An address of at most 128 bits.
-fn address(fields: Fields<'_>, name: &[u8]) -> Option<u128>
-    ensures { result ≡ address fields.entry.table.now fields.entry.root.now name.now }
+fn address(fields: Fields<'_>, name: Sought) -> Option<u128>
+    requires { fields.known.now ≡ known_of fields.table.now.names }
+    ensures { result ≡ address fields.entry.table.now fields.entry.root.now (text_of name) }
 {
     address_in(
         fields.table,
-        first_named(fields.table, name, Some(fields.root)),
+        first_known(fields.table, fields.known, name, fields.root),
     )
 }
 
