@@ -9,7 +9,6 @@ use Rattle.read_plan.proofs.Passing.{as_passes}
 use Rattle.type_table.specs.PerScope.{with_scope}
 use Rattle.type_table.specs.declared.meta.ScopeName.TheVariants.{EventContext, EventHeader, StreamContext}
 use Rattle.type_table.specs.declared.declared.EventParts.{EventParts}
-use Rattle.ctf_fields.specs.declared.raw.RawEvent.{RawEvent}
 use Rattle.packet_decoder.specs.declared.events.Cursor.{Cursor}
 use Rattle.packet_decoder.specs.declared.events.EventHead.{EventHead}
 use Rattle.packet_decoder.specs.Events.{PacketModel, as_result, event, event_body, event_fields, event_head, event_timed, field_or_none, from_of, scope_at}
@@ -104,22 +103,17 @@ pub ends_as : (skip : Option ℕ) (x : Result (Option Field × ℕ) Cause) (e : 
 ends_as skip x (Refused cause) h = h
 ends_as skip x NoMemory h = tt
 
--- an event that can't be read can't be passed over
-pub passed_as : (skips : List (Option ℕ)) (x : Result (RawEvent × Cursor) Cause) (next : Cursor) (e : Failure) → EventReadAs skips x (Err e) → EventPassedAs x next (Err e)
-passed_as skips x next (Refused cause) h = h
-passed_as skips x next NoMemory h = tt
-
 -- what stands after a header can't be read, and so the event can't be passed over
-pub by_end : (w : PacketModel) (s : Scopes) (c next : Cursor) (first head : EventHead) (e : Failure) → IsHeadReadAs w.meta.table first head → event_head w s c.at ≡ Ok first
-    → EndsAs (event_body w (with_scope EventHeader head.header s) head.parts head.at) (Err e) → EventPassedAs (event w s c) next (Err e)
-by_end w s c next first head (Refused cause) read heads bodies = body_refused w s c first head cause read heads bodies
-by_end w s c next first head NoMemory read heads bodies = tt
+pub by_end : (w : PacketModel) (s : Scopes) (c : Cursor) (first head : EventHead) (e : Failure) → IsHeadReadAs w.meta.table first head → event_head w s c.at ≡ Ok first
+    → EndsAs (event_body w (with_scope EventHeader head.header s) head.parts head.at) (Err e) → EventPassedAs (event w s c) (Err e)
+by_end w s c first head (Refused cause) read heads bodies = body_refused w s c first head cause read heads bodies
+by_end w s c first head NoMemory read heads bodies = tt
 
 -- a header can't be read, and so the event can't be passed over
-pub by_head : (w : PacketModel) (s : Scopes) (c next : Cursor) (e : Failure) → HeadToldAs w (event_head w s c.at) (Err e) → EventPassedAs (event w s c) next (Err e)
+pub by_head : (w : PacketModel) (s : Scopes) (c : Cursor) (e : Failure) → HeadToldAs w (event_head w s c.at) (Err e) → EventPassedAs (event w s c) (Err e)
 unfolding event
-by_head w s c next (Refused cause) heads = ap (λ x. and_then x (λ h. and_then (event_body w (with_scope EventHeader h.header s) h.parts h.at) (λ body. event_timed w c h body.0 body.1))) heads
-by_head w s c next NoMemory heads = tt
+by_head w s c (Refused cause) heads = ap (λ x. and_then x (λ h. and_then (event_body w (with_scope EventHeader h.header s) h.parts h.at) (λ body. event_timed w c h body.0 body.1))) heads
+by_head w s c NoMemory heads = tt
 
 -- without a timestamp the clock's value stays
 pub unstamped : (meta : TraceMetaModel) (clock value time : ℕ) → time_after meta None clock ≡ Ok (value, time) → time_after meta None clock ≡ Ok (clock, time)

@@ -31,9 +31,13 @@ pub record EventReaderModel : Type 0 where
   pub cursor : Cursor
   pub read : ℕ
 
--- the events that are left, or the first cause for which the packet is refused; all events of a packet are at most as many as its bits
+-- the events from a cursor on, before which so many were read, or the first cause for which the packet is refused; all events of a packet are at most as many as its bits
+abbrev pub events_after : PacketModel → Scopes → Cursor → ℕ → Result (List RawEvent) Cause
+events_after w s c read = events_from (w.end - read) w s [] c
+
+-- the events that are left, or the first cause for which the packet is refused
 abbrev pub events_left : EventReaderModel → Result (List RawEvent) Cause
-events_left u = events_from (u.within.end - u.read) u.within u.scopes [] u.cursor
+events_left u = events_after u.within u.scopes u.cursor u.read
 
 -- an event before others
 abbrev pub and_before : RawEvent → Result (List RawEvent) Cause → Result (List RawEvent) Cause
@@ -141,8 +145,8 @@ EndsAs answer (Ok end) = (whole : Option Field) × (answer ≡ Ok (whole, end))
 EndsAs answer (Err (failure.Refused cause)) = answer ≡ Err cause
 EndsAs answer (Err failure.OutOfMemory) = Unit {0}
 
--- a call goes on behind an event that can be read, or refuses as it is refused
-abbrev pub EventPassedAs : Result (RawEvent × Cursor) Cause → Cursor → Result (Unit {0}) Failure → Type 0
-EventPassedAs answer next (Ok done) = (whole : RawEvent) × (answer ≡ Ok (whole, next))
-EventPassedAs answer next (Err (failure.Refused cause)) = answer ≡ Err cause
-EventPassedAs answer next (Err failure.OutOfMemory) = Unit {0}
+-- a call answers the cursor behind an event that can be read, or refuses as it is refused
+abbrev pub EventPassedAs : Result (RawEvent × Cursor) Cause → Result Cursor Failure → Type 0
+EventPassedAs answer (Ok next) = (whole : RawEvent) × (answer ≡ Ok (whole, next))
+EventPassedAs answer (Err (failure.Refused cause)) = answer ≡ Err cause
+EventPassedAs answer (Err failure.OutOfMemory) = Unit {0}

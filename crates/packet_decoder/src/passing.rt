@@ -1,11 +1,13 @@
 //! Events that are passed over: of each it is found out only whether it is refused, and where the next one begins.
-ghost use Rattle.std.specs.Prelude.{◌≡◌, ◌≤◌, ◌<◌, ◌^◌, None, Some, option_map, slice_get, IfOk, OnErr, OnOk, IfSome};
+ghost use Rattle.std.specs.Prelude.{◌≡◌, ◌≤◌, ◌<◌, ◌^◌, None, Some, Err, option_map, slice_get, IfOk, OnOk, IfSome};
 ghost use Rattle.std.specs.Option.{option_copied};
 ghost use Rattle.packet_decoder.specs.Events.{cleared, event, event_body};
-ghost use Rattle.packet_decoder.specs.EventReaders.{ClockAs, EndsAs, EventPassedAs, IsDeclared, IsSeen, IsTimed, PlanFits};
+ghost use Rattle.packet_decoder.specs.EventReaders.{ClockAs, EndsAs, EventPassedAs, IsDeclared, IsSeen, IsTimed, PlanFits, events_after, refusal};
 ghost use Rattle.packet_decoder.specs.Times.{time_after};
 ghost use Rattle.read_plan.specs.FixedSizes.{AreSkips};
 ghost use Rattle.type_table.specs.declared.declared.EventParts.{EventParts};
+ghost use Rattle.packet_decoder.specs.declared.failure.Failure.TheVariants as failure;
+ghost use Rattle.trace_types.specs.declared.cause.Cause.{Cause};
 
 use crate::events::{
     Cursor, LastEvent, Packet, ToldHead, clear, event_body, read_event, recycle_fields, skip_at,
@@ -125,15 +127,14 @@ fn pass_planned(
     plan: &HeaderPlan,
     skips: &[Option<u64>],
     seen: &mut Seen,
-    cursor: &mut Cursor,
-) -> Result<(), Failure>
-    requires at { cursor.old.at ≤ 2 ^ 63 }
+    cursor: Cursor,
+) -> Result<Cursor, Failure>
+    requires at { cursor.at ≤ 2 ^ 63 }
     requires fits { PlanFits packet.now.meta.table packet.now.parts.event_header (Some plan.now) }
     requires skips { AreSkips packet.now.meta skips.now }
     requires seen { IsSeen packet.now seen.old }
-    ensures answers { EventPassedAs (event packet.now (cleared scopes.old) cursor.old) cursor.new result }
-    ensures kept { OnErr result (cursor.new ≡ cursor.old) }
-    ensures forward { OnOk result ((cursor.old.at < cursor.new.at) × (cursor.new.at ≤ 2 ^ 63)) }
+    ensures answers { EventPassedAs (event packet.now (cleared scopes.old) cursor) result }
+    ensures forward { IfOk result (λ next. (cursor.at < next.at) × (next.at ≤ 2 ^ 63)) }
     ensures stays { OnOk result (cleared scopes.new ≡ cleared scopes.old) }
     ensures seen { OnOk result (IsSeen packet.now seen.new) }
 {
@@ -143,9 +144,7 @@ fn pass_planned(
         return Err(Failure::Refused(Cause::NoBits));
     }
     let clock = clock_after(packet.meta, &mut seen.timed, head.timestamp, cursor.clock)?;
-    cursor.clock = clock;
-    cursor.at = at;
-    Ok(())
+    Ok(Cursor { clock, at })
 }
 
 // Passes over an event whose header is read with its fields.
@@ -156,28 +155,26 @@ fn pass_read(
     scopes: &mut Scopes,
     scratch: &mut Scratch,
     skips: &[Option<u64>],
-    cursor: &mut Cursor,
-) -> Result<(), Failure>
-    requires at { cursor.old.at ≤ 2 ^ 63 }
+    cursor: Cursor,
+) -> Result<Cursor, Failure>
+    requires at { cursor.at ≤ 2 ^ 63 }
     requires skips { AreSkips packet.now.meta skips.now }
-    ensures answers { EventPassedAs (event packet.now (cleared scopes.old) cursor.old) cursor.new result }
-    ensures kept { OnErr result (cursor.new ≡ cursor.old) }
-    ensures forward { OnOk result ((cursor.old.at < cursor.new.at) × (cursor.new.at ≤ 2 ^ 63)) }
+    ensures answers { EventPassedAs (event packet.now (cleared scopes.old) cursor) result }
+    ensures forward { IfOk result (λ next. (cursor.at < next.at) × (next.at ≤ 2 ^ 63)) }
     ensures stays { OnOk result (cleared scopes.new ≡ cleared scopes.old) }
 {
-    match read_event(alloc, packet, scopes, scratch, None, skips, *cursor) {
+    match read_event(alloc, packet, scopes, scratch, None, skips, cursor) {
         Ok((raw, next)) => {
             recycle_fields(scratch, raw.fields);
-            *cursor = next;
-            Ok(())
+            Ok(next)
         }
         Err(failure) => Err(failure),
     }
 }
 
-/// Goes on behind the event at a bit. The event's header is read by a plan where there is one, and nothing of the event is kept.
+// The cursor behind the event at a cursor. The event's header is read by a plan where there is one, and nothing of the event is kept.
 #[inline(always)]
-pub fn pass_event(
+fn pass_event(
     alloc: Global,
     packet: &Packet<'_>,
     scopes: &mut Scopes,
@@ -185,15 +182,14 @@ pub fn pass_event(
     header: Option<&HeaderPlan>,
     skips: &[Option<u64>],
     seen: &mut Seen,
-    cursor: &mut Cursor,
-) -> Result<(), Failure>
-    requires at { cursor.old.at ≤ 2 ^ 63 }
+    cursor: Cursor,
+) -> Result<Cursor, Failure>
+    requires at { cursor.at ≤ 2 ^ 63 }
     requires header { PlanFits packet.now.meta.table packet.now.parts.event_header (option_copied header) }
     requires skips { AreSkips packet.now.meta skips.now }
     requires seen { IsSeen packet.now seen.old }
-    ensures answers { EventPassedAs (event packet.now (cleared scopes.old) cursor.old) cursor.new result }
-    ensures kept { OnErr result (cursor.new ≡ cursor.old) }
-    ensures forward { OnOk result ((cursor.old.at < cursor.new.at) × (cursor.new.at ≤ 2 ^ 63)) }
+    ensures answers { EventPassedAs (event packet.now (cleared scopes.old) cursor) result }
+    ensures forward { IfOk result (λ next. (cursor.at < next.at) × (next.at ≤ 2 ^ 63)) }
     ensures stays { OnOk result (cleared scopes.new ≡ cleared scopes.old) }
     ensures seen { OnOk result (IsSeen packet.now seen.new) }
 {
@@ -201,4 +197,36 @@ pub fn pass_event(
         Some(plan) => pass_planned(alloc, packet, scopes, scratch, plan, skips, seen, cursor),
         None => pass_read(alloc, packet, scopes, scratch, skips, cursor),
     }
+}
+
+/// Passes over all events from a cursor on, before which so many were read, and keeps none. It is compiled by itself, so that what
+/// changes from event to event stays in the processor's registers.
+#[inline(never)]
+pub fn pass_rest(
+    alloc: Global,
+    packet: &Packet<'_>,
+    scopes: &mut Scopes,
+    scratch: &mut Scratch,
+    header: Option<&HeaderPlan>,
+    skips: &[Option<u64>],
+    first: Cursor,
+    before: u64,
+) -> Result<(), Failure>
+    requires at { first.at ≤ 2 ^ 63 }
+    requires before { before ≤ first.at }
+    requires header { PlanFits packet.now.meta.table packet.now.parts.event_header (option_copied header) }
+    requires skips { AreSkips packet.now.meta skips.now }
+    ensures accepted { OnOk result (refusal (events_after packet.now (cleared scopes.old) first before) ≡ None) }
+    ensures refused { (cause : Cause) → result ≡ Err (failure.Refused cause) → refusal (events_after packet.now (cleared scopes.old) first before) ≡ Some cause }
+{
+    let mut seen = nothing_seen();
+    let mut cursor = first;
+    let mut read = before;
+    while cursor.at < packet.bits.end {
+        cursor = pass_event(
+            alloc, packet, scopes, scratch, header, skips, &mut seen, cursor,
+        )?;
+        read += 1;
+    }
+    Ok(())
 }

@@ -2,7 +2,7 @@
 ghost use Rattle.std.specs.Prelude.{◌≡◌, ◌≤◌, ◌<◌, ◌+◌, ◌^◌, true, false, Ok, Err, None, Some, IfOk, IfSome, IfNone, OnOk, [], length};
 ghost use Rattle.packet_decoder.specs.Events.{as_packet, decoded};
 ghost use Rattle.packet_decoder.specs.Pieces.{LiesIn};
-ghost use Rattle.packet_decoder.specs.EventReaders.{IsReadAs, IsSeen, PlanFits, and_before, events_left, planned_header, refusal};
+ghost use Rattle.packet_decoder.specs.EventReaders.{IsReadAs, PlanFits, and_before, events_left, planned_header, refusal};
 ghost use Rattle.read_plan.specs.FixedSizes.{AreSkips};
 ghost use Rattle.read_plan.specs.Lone.{IsLone};
 ghost use Rattle.ctf_fields.specs.declared.raw.RawEvent.{RawEvent};
@@ -14,7 +14,7 @@ use crate::cutting::bytes_from;
 use crate::events::{Cursor, Packet, read_event, recycle_fields};
 use crate::failure::Failure;
 use crate::packet_head::read_packet_head;
-use crate::passing::{Seen, nothing_seen, pass_event};
+use crate::passing::pass_rest;
 use crate::piece::PacketSpan;
 use ctf_fields::{BitSpan, Field, RawEvent, Scopes, Scratch};
 use read_plan::{HeaderPlan, header_plan};
@@ -148,43 +148,16 @@ impl<'a> EventReader<'a> {
         ensures accepted { OnOk result (refusal (events_left self.old) ≡ None) }
         ensures refused { (cause : Cause) → result ≡ Err (failure.Refused cause) → refusal (events_left self.old) ≡ Some cause }
     {
-        let mut seen = nothing_seen();
-        while self.pass_next(alloc, skips, &mut seen)? {}
-        Ok(())
-    }
-
-    // Passes over the next event, and tells whether there was one.
-    #[inline(always)]
-    fn pass_next(
-        &mut self,
-        alloc: Global,
-        skips: &[Option<u64>],
-        seen: &mut Seen,
-    ) -> Result<bool, Failure>
-        requires skips { AreSkips self.old.within.meta skips.now }
-        requires seen { IsSeen self.old.within seen.old }
-        ensures over { result ≡ Ok false → events_left self.old ≡ Ok [] }
-        ensures passed { result ≡ Ok true → refusal (events_left self.old) ≡ refusal (events_left self.new) }
-        ensures counts { result ≡ Ok true → (self.new.read ≡ self.old.read + 1) × (self.old.read < self.old.within.end) }
-        ensures within { OnOk result (self.new.within ≡ self.old.within) }
-        ensures seen { OnOk result (IsSeen self.old.within seen.new) }
-        ensures refused { (cause : Cause) → result ≡ Err (failure.Refused cause) → events_left self.old ≡ Err cause }
-    {
-        if self.cursor.at >= self.packet.bits.end {
-            return Ok(false);
-        }
-        pass_event(
+        pass_rest(
             alloc,
             &self.packet,
             &mut self.scopes,
             &mut self.scratch,
             self.header.as_ref(),
             skips,
-            seen,
-            &mut self.cursor,
-        )?;
-        self.read += 1;
-        Ok(true)
+            self.cursor,
+            self.read,
+        )
     }
 
     /// Takes the memory of an event's fields that are no longer needed.
