@@ -9,3 +9,4 @@ pub mod AlikeEvents
 pub mod StandardFacts
 pub mod PassedOver
 pub mod PlannedHeads
+pub mod Repeats

@@ -1,5 +1,5 @@
 -- A packet whose events are read one by one (the events are those of CTF 1.8, section 6; that they are read so is this project's own).
-use Rattle.std.specs.Prelude.{◌≡◌, ◌⊎◌, ℕ, ◌-◌, Bool, List, [], ◌∷◌, Option, None, Some, Result, Ok, Err, if◌then◌else◌, ◌&&◌, is_none, option_map, slice_get}
+use Rattle.std.specs.Prelude.{◌≡◌, ◌⊎◌, ℕ, ◌-◌, Bool, List, [], ◌∷◌, Option, None, Some, Result, Ok, Err, if◌then◌else◌, ◌&&◌, not, nat_eq, is_none, option_map, slice_get}
 use Rattle.std.specs.Option.{option_and_then}
 use Rattle.ctf_fields.specs.declared.raw.RawEvent.{RawEvent}
 use Rattle.ctf_fields.specs.declared.field.Field.{Field}
@@ -9,7 +9,9 @@ use Rattle.read_plan.specs.FixedSizes.{skip_at}
 use Rattle.read_plan.specs.Headers.{IsPlanFor, IsReadablePlan}
 use Rattle.read_plan.specs.Headers.{header_plan as plan_of}
 use Rattle.read_plan.specs.Lone.{IsLone}
+use Rattle.read_plan.specs.Singles.{IsReadableSingle, single_number}
 use Rattle.read_plan.specs.declared.header.HeaderPlan.{HeaderPlan}
+use Rattle.read_plan.specs.declared.single.SingleNumber.{SingleNumber}
 use Rattle.packet_decoder.specs.Events.{PacketModel, event_by, events_from}
 use Rattle.packet_decoder.specs.PacketHeads.{and_then}
 use Rattle.packet_decoder.specs.declared.events.Cursor.{Cursor}
@@ -81,6 +83,10 @@ PlanFits t ty None = Unit {0}
 PlanFits t None (Some plan) = ⊥
 PlanFits t (Some ty) (Some plan) = IsReadablePlan plan × IsPlanFor t ty plan × IsLone t
 
+-- a number is the whole header of a stream's events, and no type looks into these
+abbrev pub SingleFits : Table → Option ℕ → SingleNumber → Type 0
+SingleFits t ty s = IsReadableSingle s × ((plan : HeaderPlan) × PlanFits t ty (Some plan) × (single_number plan ≡ Some s))
+
 -- what a header tells, and how it was read, which may be without its fields where no type looks into them
 pub record IsHeadReadAs (t : Table) (whole head : EventHead) : Type 0 where
   pub at : head.at ≡ whole.at
@@ -150,3 +156,12 @@ abbrev pub EventPassedAs : Result (RawEvent × Cursor) Cause → Result Cursor F
 EventPassedAs answer (Ok next) = (whole : RawEvent) × (answer ≡ Ok (whole, next))
 EventPassedAs answer (Err (failure.Refused cause)) = answer ≡ Err cause
 EventPassedAs answer (Err failure.OutOfMemory) = Unit {0}
+
+-- ---- events that repeat the one before
+
+-- the id of an event that was looked up before, where an event of its id can only repeat it: the id is the whole header, nothing stands behind it, and at this value of the clock it has a time
+abbrev pub repeated_by : SingleNumber → ℕ → LastEvent → ℕ → Option ℕ
+repeated_by s clock last timed = if s.number.is_id && not s.number.is_timestamp && last.is_bare && nat_eq timed clock then Some last.id else None
+
+abbrev pub repeated_id : SingleNumber → Seen → ℕ → Option ℕ
+repeated_id s seen clock = option_and_then (λ last. option_and_then (repeated_by s clock last) seen.timed) seen.last

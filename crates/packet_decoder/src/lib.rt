@@ -9,6 +9,7 @@ mod packet_head;
 mod passing;
 mod piece;
 mod reader;
+mod repeated;
 mod times;
 mod values;
 

@@ -1,10 +1,12 @@
 //! Events that are passed over: of each it is found out only whether it is refused, and where the next one begins.
 ghost use Rattle.std.specs.Prelude.{◌≡◌, ◌≤◌, ◌<◌, ◌^◌, None, Some, Err, option_map, slice_get, IfOk, OnOk, IfSome};
-ghost use Rattle.std.specs.Option.{option_copied};
+ghost use Rattle.std.specs.Option.{option_and_then, option_copied};
 ghost use Rattle.packet_decoder.specs.Events.{cleared, event, event_body};
 ghost use Rattle.packet_decoder.specs.EventReaders.{ClockAs, EndsAs, EventPassedAs, IsDeclared, IsSeen, IsTimed, PlanFits, events_after, refusal};
 ghost use Rattle.packet_decoder.specs.Times.{time_after};
 ghost use Rattle.read_plan.specs.FixedSizes.{AreSkips};
+ghost use Rattle.read_plan.specs.Headers.{IsReadablePlan};
+ghost use Rattle.read_plan.specs.Singles.{IsReadableSingle, single_number};
 ghost use Rattle.type_table.specs.declared.declared.EventParts.{EventParts};
 ghost use Rattle.packet_decoder.specs.declared.failure.Failure.TheVariants as failure;
 ghost use Rattle.trace_types.specs.declared.cause.Cause.{Cause};
@@ -14,9 +16,10 @@ use crate::events::{
     told_head,
 };
 use crate::failure::Failure;
+use crate::repeated::pass_repeated;
 use crate::times::{Timestamp, time_after};
 use ctf_fields::{Scopes, Scratch};
-use read_plan::HeaderPlan;
+use read_plan::{HeaderPlan, SingleNumber};
 use std::alloc::Global;
 use trace_types::Cause;
 use type_table::TraceMeta;
@@ -199,8 +202,17 @@ fn pass_event(
     }
 }
 
-/// Passes over all events from a cursor on, before which so many were read, and keeps none. It is compiled by itself, so that what
-/// changes from event to event stays in the processor's registers.
+// The number that headers are which have nothing else.
+fn single_of(header: Option<&HeaderPlan>) -> Option<SingleNumber>
+    requires { IfSome (option_copied header) IsReadablePlan }
+    ensures is { result ≡ option_and_then single_number (option_copied header.entry) }
+    ensures readable { IfSome result IsReadableSingle }
+{
+    header?.single_number()
+}
+
+/// Passes over all events from a cursor on, before which so many were read, and keeps none. Those that repeat the one before are
+/// passed over in a loop of their own, which does less for each.
 #[inline(never)]
 pub fn pass_rest(
     alloc: Global,
@@ -219,6 +231,7 @@ pub fn pass_rest(
     ensures accepted { OnOk result (refusal (events_after packet.now (cleared scopes.old) first before) ≡ None) }
     ensures refused { (cause : Cause) → result ≡ Err (failure.Refused cause) → refusal (events_after packet.now (cleared scopes.old) first before) ≡ Some cause }
 {
+    let single = single_of(header);
     let mut seen = nothing_seen();
     let mut cursor = first;
     let mut read = before;
@@ -227,6 +240,9 @@ pub fn pass_rest(
             alloc, packet, scopes, scratch, header, skips, &mut seen, cursor,
         )?;
         read += 1;
+        if let Some(number) = single {
+            (cursor, read) = pass_repeated(packet, number, seen, cursor, read);
+        }
     }
     Ok(())
 }

@@ -5,3 +5,4 @@ pub mod Planned
 pub mod Rows
 pub mod Taken
 pub mod Values
+pub mod Singles

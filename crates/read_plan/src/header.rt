@@ -167,10 +167,10 @@ fn with_number(number: HeaderNumber, value: i128, before: HeaderNumbers) -> Head
     told
 }
 
-// The first bit from here that is aligned so. Most structures are aligned to bytes, or to nothing.
+/// The first bit from here that is aligned so. Most structures are aligned to bytes, or to nothing.
 #[inline(always)]
 #[tactic(auto, using(ctf_fields::proofs::Aligned::within_all))]
-fn aligned(at: u64, align: u32) -> u64
+pub fn aligned(at: u64, align: u32) -> u64
     requires at { at ≤ 2 ^ 63 }
     requires some { 1 ≤ align }
     requires within { 65536 % align ≡ 0 }

@@ -1,0 +1,146 @@
+//! What is found out of a packet whose events aren't made: whether it is refused. The causes are read off the bits by hand.
+ghost use Rattle.std.specs.Prelude.{◌≡◌, ◌≤◌, length};
+ghost use Rattle.kernel_layout.specs.Tracepoints.{layout_of};
+ghost use Rattle.packet_decoder.specs.Pieces.{LiesIn};
+
+use kernel_layout::Layout;
+use metadata_tests::declared::declared;
+use packet_decoder::{EventReader, Failure, PacketSpan, Piece, cut};
+use std::alloc::{AllocGlobal, Global};
+use std::process::Abort;
+use std::test::Fail;
+use trace_types::{Cause, OutOfMemory};
+use type_table::TraceMeta;
+
+// A clock whose first instant is 1 ns, headers of one number, of one bit, and an event of the id 0 that has nothing else.
+const BITS: &str = "trace { byte_order = le; }; clock { name = c; offset = 1; };
+    stream { event.header := struct { integer { size = 1; } id; }; };
+    event { name = a; id = 0; };";
+
+/// The cause for which a file that is one packet is refused, if it is.
+fn is_passed<R: AllocGlobal + Abort>(
+    rt: &R,
+    metadata: &str,
+    file: &[u8],
+    cause: Option<Cause>,
+) -> Result<(), Fail> {
+    match declared(rt, metadata.as_bytes())? {
+        Ok(meta) => is_passed_by(rt, &meta, file, cause),
+        Err(_) => panic!(rt; "metadata"),
+    }
+}
+
+fn is_passed_by<R: AllocGlobal + Abort>(
+    rt: &R,
+    meta: &TraceMeta,
+    file: &[u8],
+    cause: Option<Cause>,
+) -> Result<(), Fail> {
+    assert!(rt; file.len() <= 65_536);
+    match first_packet(rt.alloc(), meta, file) {
+        Ok(found) => assert_eq!(rt; found, cause),
+        Err(OutOfMemory) => panic!(rt; "memory"),
+    }
+    Ok(())
+}
+
+fn first_packet(alloc: Global, meta: &TraceMeta, file: &[u8]) -> Result<Option<Cause>, OutOfMemory>
+    requires { length file.now ≤ 65536 }
+{
+    let layout = Layout::new(alloc, meta)?;
+    let pieces = cut(alloc, meta, file)?;
+    match pieces.as_slice().first() {
+        Some(Piece::Packet(span)) => match passed(alloc, meta, &layout, file, span) {
+            Ok(()) => Ok(None),
+            Err(Failure::Refused(cause)) => Ok(Some(cause)),
+            Err(Failure::OutOfMemory) => Err(OutOfMemory),
+        },
+        Some(Piece::Bad { cause, .. }) => Ok(Some(*cause)),
+        None => Ok(None),
+    }
+}
+
+fn passed(
+    alloc: Global,
+    meta: &TraceMeta,
+    layout: &Layout,
+    file: &[u8],
+    span: &PacketSpan,
+) -> Result<(), Failure>
+    requires layout { layout.now ≡ layout_of meta.now }
+    requires file { length file.now ≤ 65536 }
+    requires span { LiesIn file.now span.now }
+{
+    let mut reader = EventReader::open(alloc, meta, file, span)?;
+    reader.plan_headers(alloc, layout.lone(meta))?;
+    reader.skip_rest(alloc, layout.skips(meta))
+}
+
+// 320 events, and 20 of which a later one has the id 1, which isn't declared.
+#[test]
+fn events_that_repeat(rt: HostRuntime) -> Result<(), Fail> {
+    is_passed(&rt, BITS, &[0; 40], None)?;
+    is_passed(&rt, BITS, &[0, 0, 0x10], Some(Cause::UnknownEvent))
+}
+
+// The event of the id 1 takes 7 bits more: from the first bit on it fits, from the second it doesn't.
+#[test]
+fn another_between(rt: HostRuntime) -> Result<(), Fail> {
+    let metadata = "trace { byte_order = le; }; clock { name = c; offset = 1; };
+        stream { event.header := struct { integer { size = 1; } id; }; };
+        event { name = a; id = 0; };
+        event { name = b; id = 1; fields := struct { integer { size = 7; } n; }; };";
+    is_passed(&rt, metadata, &[0, 0x01, 0xFF, 0], None)?;
+    is_passed(&rt, metadata, &[0, 0x02], Some(Cause::ShortContent))
+}
+
+// Headers of 3 bits in 24 and in 8; and aligned to 4, where the one after the seventh bit begins behind the end.
+#[test]
+fn headers_past_the_end(rt: HostRuntime) -> Result<(), Fail> {
+    let three = "trace { byte_order = le; }; clock { name = c; offset = 1; };
+        stream { event.header := struct { integer { size = 3; } id; }; };
+        event { name = a; id = 0; };";
+    is_passed(&rt, three, &[0; 3], None)?;
+    is_passed(&rt, three, &[0], Some(Cause::ShortContent))?;
+    is_passed(
+        &rt,
+        "trace { byte_order = le; }; clock { name = c; offset = 1; };
+        stream { event.header := struct { integer { size = 3; align = 4; } id; }; };
+        event { name = a; id = 0; };",
+        &[0],
+        Some(Cause::ShortContent),
+    )
+}
+
+// Where the high bits come first, the id 1 is the second of two and its 4 bits are missing; else it is the first.
+#[test]
+fn orders_of_bits(rt: HostRuntime) -> Result<(), Fail> {
+    is_passed(
+        &rt,
+        "trace { byte_order = be; }; clock { name = c; offset = 1; };
+        stream { event.header := struct { integer { size = 4; } id; }; };
+        event { name = a; id = 0; };
+        event { name = b; id = 1; fields := struct { integer { size = 4; } n; }; };",
+        &[0x01],
+        Some(Cause::ShortContent),
+    )?;
+    is_passed(
+        &rt,
+        "trace { byte_order = le; }; clock { name = c; offset = 1; };
+        stream { event.header := struct { integer { size = 4; } id; }; };
+        event { name = a; id = 0; };
+        event { name = b; id = 1; fields := struct { integer { size = 4; } n; }; };",
+        &[0x01],
+        None,
+    )
+}
+
+// With a sign the bit 1 is the number -1, which is no event's id.
+#[test]
+fn an_id_with_a_sign(rt: HostRuntime) -> Result<(), Fail> {
+    let metadata = "trace { byte_order = le; }; clock { name = c; offset = 1; };
+        stream { event.header := struct { integer { size = 1; signed = true; } id; }; };
+        event { name = a; id = 0; };";
+    is_passed(&rt, metadata, &[0, 0], None)?;
+    is_passed(&rt, metadata, &[0, 0x80], Some(Cause::UnknownEvent))
+}
