@@ -252,7 +252,7 @@ by_both : (t u : Table) (bytes : List ℕ) (end : ℕ) (s r : Scopes) (i j : Inn
     → InnerAlike t u i j → AlikeNames t u x y → SameType t u a b → SameMeta t u k l → AlikeOpenStructs t u open_structs others
     → ReadBoth (Alike t u) (read_by i (source t bytes end s) x a (Some k) open_structs at) (read_by j (source u bytes end r) y b (Some l) others at)
 unfolding read_by
-by_both t u bytes end s r i j x y a b open_structs others at one two scopes inner name same (integers _ _ _ _ _ _ _ _ _ _ e) here = numbers_both t u bytes end s r a b _ _ at e same
+by_both t u bytes end s r i j x y a b open_structs others at one two scopes inner name same (integers _ _ e) here = numbers_both t u bytes end s r a b _ _ at (ap Some e) same
 by_both t u bytes end s r i j x y a b open_structs others at one two scopes inner name same (enums c d ls ms base _) here = numbers_both t u bytes end s r a b _ _ at (base.left ∙ sym base.right) same
 by_both t u bytes end s r i j x y a b open_structs others at one two scopes inner name same strings here = leaf_both t u field.Text field.Text (text_read bytes end at) (string_alike t u)
 by_both t u bytes end s r i j x y a b open_structs others at one two scopes inner name same (structures align align' fs gs e inside) here =

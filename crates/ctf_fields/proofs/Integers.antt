@@ -24,7 +24,7 @@ by_type : (inner : Inner) (from : SourceModel) (name : Option ℕ) (ty : ℕ) (m
     → read_by inner from name ty m open_structs at ≡ read_number from ty (Some i) at
 unfolding read_by
 by_type inner from name ty None i open_structs at e = absurd (cc)
-by_type inner from name ty (Some (meta.Integer size align signed order clock)) i open_structs at e = ap (λ o. read_number from ty o at) e
+by_type inner from name ty (Some (meta.Integer integer)) i open_structs at e = ap (λ o. read_number from ty o at) e
 by_type inner from name ty (Some (meta.Enum base labels)) i open_structs at e = ap (λ o. read_number from ty o at) e
 by_type inner from name ty (Some meta.Str) i open_structs at e = absurd (cc)
 by_type inner from name ty (Some (meta.Struct align fs)) i open_structs at e = absurd (cc)
@@ -92,7 +92,7 @@ is_array t (Some (meta.Array c it)) i count item e = by (integer_type t it) refl
         let same_item : it ≡ item = ap (λ x. x.2) whole in
         (ap (λ n. Some (meta.Array n it)) same_count ∙ ap (λ n. Some (meta.Array count n)) same_item, ap (integer_type t) (sym same_item) ∙ is ∙ ap Some same_integer)
 is_array t None i count item e = absurd (cc)
-is_array t (Some (meta.Integer size align signed order clock)) i count item e = absurd (cc)
+is_array t (Some (meta.Integer integer)) i count item e = absurd (cc)
 is_array t (Some (meta.Enum base labels)) i count item e = absurd (cc)
 is_array t (Some meta.Str) i count item e = absurd (cc)
 is_array t (Some (meta.Struct align fs)) i count item e = absurd (cc)

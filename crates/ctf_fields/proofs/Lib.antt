@@ -2,6 +2,7 @@ pub mod Alike
 pub mod AlikeFields
 pub mod AlikeReading
 pub mod Chosen
+pub mod Holding
 pub mod Integers
 pub mod Nearest
 pub mod Aligned

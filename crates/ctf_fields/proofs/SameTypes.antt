@@ -1,7 +1,6 @@
 -- What two indices of equal trees give, where both tables are sound: types of one kind, whose parts are equal or indices of equal trees.
-use Rattle.std.proofs.Common.{◌≡◌, ◌∙◌, ℕ, zero, suc, ◌<◌, List, [], ◌∷◌, Option, Some, None, Bool, if◌then◌else◌, get_or, length, map, slice_get, ap, refl, sym, subst, subst₂, lt-ltb}
+use Rattle.std.proofs.Common.{◌≡◌, ◌∙◌, ℕ, zero, suc, ◌<◌, List, [], ◌∷◌, Option, Some, None, if◌then◌else◌, get_or, length, map, slice_get, ap, refl, sym, subst, subst₂, lt-ltb}
 use Rattle.std.proofs.lemmas.Option.{slice_get-get_or}
-use Rattle.trace_types.specs.declared.byte_order.ByteOrderKind.{ByteOrderKind}
 use Rattle.type_table.specs.Table.{AreBased, FieldsIn, IsBased, IsSoundTable, IsWhole, RefersIn, Table, fields_at, integer_in, labels_at, name_at, shape, tree, trees, field_path_by, field_path_of, field_path_or_here}
 use Rattle.type_table.specs.Types.{Label, Text, Ty, FieldPath, alignment}
 use Rattle.type_table.specs.declared.integer.Integer.{Integer}
@@ -47,9 +46,7 @@ pub record SameBase (t u : Table) (a b : ℕ) : Type 0 where
 
 -- types of one kind, with the same parts
 pub data SameMeta (t u : Table) : TypeMeta → TypeMeta → Type 0 where
-  integers : (size align : ℕ) (signed : Bool) (order : ByteOrderKind) (clock : Option ℕ) (size' align' : ℕ) (signed' : Bool) (order' : ByteOrderKind) (clock' : Option ℕ)
-      → integer_of (Some (meta.Integer size align signed order clock)) ≡ integer_of (Some (meta.Integer size' align' signed' order' clock'))
-      → SameMeta t u (meta.Integer size align signed order clock) (meta.Integer size' align' signed' order' clock')
+  integers : (i j : Integer) → i ≡ j → SameMeta t u (meta.Integer i) (meta.Integer j)
   enums : (a b : ℕ) (ls ms : List LabelMeta) → SameBase t u a b → SameLabels t u ls ms → SameMeta t u (meta.Enum a ls) (meta.Enum b ms)
   strings : SameMeta t u meta.Str meta.Str
   structs : (align align' : ℕ) (fs gs : List FieldMeta) → align ≡ align' → SameFields t u fs gs → SameMeta t u (meta.Struct align fs) (meta.Struct align' gs)
@@ -117,7 +114,7 @@ based_at ts (l ∷ types) (suc i) k based e = based_at ts types i k based.1 e
 
 -- a type whose tree is an integer is that integer
 whole_integer : (names : List Text) (ts : List Ty) (k : TypeMeta) → IsWhole (shape names ts k) → integer_of (Some k) ≡ Some (integer_in (shape names ts k))
-whole_integer names ts (meta.Integer size align signed order clock) whole = refl
+whole_integer names ts (meta.Integer integer) whole = refl
 whole_integer names ts (meta.Enum base labels) whole = absurd whole
 whole_integer names ts meta.Str whole = absurd whole
 whole_integer names ts (meta.Struct align fs) whole = absurd whole
@@ -138,9 +135,9 @@ base_integer t a sound within whole =
 -- types whose trees are equal are of one kind with the same parts
 same_shapes : (t u : Table) (k l : TypeMeta) → IsSoundTable t → IsSoundTable u → RefersIn (length t.types) k → RefersIn (length u.types) l → IsBased (trees t) k → IsBased (trees u) l
     → shape t.names (trees t) k ≡ shape u.names (trees u) l → SameMeta t u k l
-same_shapes t u (meta.Integer size align signed order clock) (meta.Integer size' align' signed' order' clock') here there left right based based' e =
-    let same : Path Integer (record { size = size; align = align; signed = signed; order = order; clock = clock }) (record { size = size'; align = align'; signed = signed'; order = order'; clock = clock' }) = cc in
-    integers size align signed order clock size' align' signed' order' clock' (ap Some same)
+same_shapes t u (meta.Integer i) (meta.Integer j) here there left right based based' e =
+    let same : i ≡ j = cc in
+    integers i j same
 same_shapes t u (meta.Enum a ls) (meta.Enum b ms) here there left right based based' e =
     let number : integer_in (tree t a) ≡ integer_in (tree u b) = cc in
     let labels : labels_at t.names ls ≡ labels_at u.names ms = cc in
@@ -193,7 +190,7 @@ types_at t u a b here there is =
 
 -- types of one kind with the same parts are one integer, or none
 number_of_both : (t u : Table) {k l : TypeMeta} → SameMeta t u k l → type_number t (Some k) ≡ type_number u (Some l)
-number_of_both t u (integers size align signed order clock size' align' signed' order' clock' same) = same
+number_of_both t u (integers i j same) = ap Some same
 number_of_both t u (enums a b ls ms base same) = base.left ∙ sym base.right
 number_of_both t u _ = refl
 

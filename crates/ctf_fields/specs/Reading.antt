@@ -66,7 +66,7 @@ leaf f (Some r) = Got (f r.0) r.1
 
 -- the integer of a type, and of the type of an enumeration
 abbrev pub integer_of : Option TypeMeta → Option Integer
-integer_of (Some (meta.Integer size align signed order map)) = Some (record { size = size; align = align; signed = signed; order = order; clock = map })
+integer_of (Some (meta.Integer integer)) = Some integer
 integer_of _ = None
 
 -- the integer that the type at an index is, or that it is an enumeration of
@@ -144,7 +144,7 @@ number_at from open_structs field_path = number_of (field_of from.table.names fr
 
 unfoldable pub read_by : Inner → SourceModel → Option ℕ → ℕ → Option TypeMeta → List OpenStruct → ℕ → Reads Field
 read_by inner from name ty None open_structs at = Fails ShortContent
-read_by inner from name ty (Some (meta.Integer size align signed order map)) open_structs at = read_number from ty (Some (record { size = size; align = align; signed = signed; order = order; clock = map })) at
+read_by inner from name ty (Some (meta.Integer integer)) open_structs at = read_number from ty (Some integer) at
 read_by inner from name ty (Some (meta.Enum base labels)) open_structs at = read_number from ty (integer_of (slice_get from.table.types base)) at
 read_by inner from name ty (Some meta.Str) open_structs at = leaf field.Text (text_read from.bytes from.end at)
 read_by inner from name ty (Some (meta.Struct align fs)) open_structs at = read_struct inner name align fs open_structs at

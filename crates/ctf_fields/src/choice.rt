@@ -8,6 +8,7 @@ use crate::source::Source;
 use type_table::{FieldMeta, LabelMeta, Table, TypeMeta};
 
 /// The field of a variant that the tag chooses, a number with the index of its type.
+#[tactic(auto, using(crate::proofs::Holding::by_holding))]
 pub fn chosen(
     source: &Source<'_>,
     tag: Option<(i128, u32)>,
@@ -18,7 +19,7 @@ pub fn chosen(
     let (value, ty) = tag?;
     match source.type_at(ty) {
         Some(TypeMeta::Enum { labels, .. }) => {
-            by_labels(source.table(), value, labels.as_slice(), fields)
+            by_labels(source.table(), value, labels.around(value), fields)
         }
         _ => None,
     }

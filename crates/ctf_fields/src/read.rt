@@ -14,7 +14,6 @@ use crate::open_struct::{OpenStruct, Scopes, clear, take_fields};
 use crate::scratch::Scratch;
 use crate::source::Source;
 use crate::span::BitSpan;
-use crate::types::integer_of;
 use sqlite_items::{Boxed, Items};
 use std::alloc::Global;
 use std::mem;
@@ -105,7 +104,7 @@ fn read_by(
     ensures stays { OnOk result (reverse scratch.new.open_structs ≡ reverse scratch.old.open_structs) }
 {
     match meta {
-        TypeMeta::Integer { .. } => source.read_number(ty, integer_of(meta), at),
+        TypeMeta::Integer(integer) => source.read_number(ty, Some(*integer), at),
         TypeMeta::Enum { base, .. } => source.read_number(ty, source.integer_at(*base), at),
         TypeMeta::Str => source.read_text(alloc, at),
         TypeMeta::Struct { align, fields } => {

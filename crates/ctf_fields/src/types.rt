@@ -26,19 +26,7 @@ pub fn integer_of(meta: &TypeMeta) -> Option<Integer>
     ensures readable { IfSome result IsReadable }
 {
     match meta {
-        TypeMeta::Integer {
-            size,
-            align,
-            signed,
-            order,
-            map,
-        } => Some(Integer {
-            size: *size,
-            align: *align,
-            signed: *signed,
-            order: *order,
-            clock: *map,
-        }),
+        TypeMeta::Integer(integer) => Some(*integer),
         _ => None,
     }
 }

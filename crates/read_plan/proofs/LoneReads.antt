@@ -67,7 +67,7 @@ module _ (t : Table) (bytes : List ℕ) (end : ℕ) (scopes : Scopes) (header : 
   same_by : (inner : Inner) (name : Option ℕ) (ty : ℕ) (m : Option TypeMeta) (opens : List OpenStruct) (at : ℕ) → looks_if m ≡ false → read_by inner to name ty m opens at ≡ read_by inner from name ty m opens at
   unfolding read_by
   same_by inner name ty None opens at e = refl
-  same_by inner name ty (Some (meta.Integer size align signed order clock)) opens at e = refl
+  same_by inner name ty (Some (meta.Integer integer)) opens at e = refl
   same_by inner name ty (Some (meta.Enum base labels)) opens at e = refl
   same_by inner name ty (Some meta.Str) opens at e = refl
   same_by inner name ty (Some (meta.Struct align fs)) opens at e = refl

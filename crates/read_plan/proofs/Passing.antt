@@ -24,7 +24,7 @@ use Rattle.ctf_fields.proofs.Steps.{one_deeper}
 
 -- ---- whole bytes
 
-there : (at align : ℕ) → at % 8 ≡ 0 → within_byte align ≡ true → next_multiple_of at align ≡ at
+pub there : (at align : ℕ) → at % 8 ≡ 0 → within_byte align ≡ true → next_multiple_of at align ≡ at
 there at align whole h = omega (arith, gap)
   where
     even : at % align ≡ 0
@@ -48,7 +48,7 @@ as_passes f (Fails OutOfMemory) at n end h = absurd h
 short_first : (at n m end : ℕ) → (1 ≤ n) × (end < at + n) → (1 ≤ n + m) × (end < at + (n + m))
 short_first at n m end h = (omega (arith, h.0), omega (arith, h.1))
 
-reach : (at n m end : ℕ) → (1 ≤ n → at + n ≤ end) → (1 ≤ m → at + n + m ≤ end) → 1 ≤ n + m → at + (n + m) ≤ end
+pub reach : (at n m end : ℕ) → (1 ≤ n → at + n ≤ end) → (1 ≤ m → at + n + m ≤ end) → 1 ≤ n + m → at + (n + m) ≤ end
 reach at n zero end f g h = omega (arith, f (omega (arith, h)))
 reach at n (suc m) end f g h = omega (arith, g (omega arith))
 
@@ -90,7 +90,7 @@ around inner s e = by (nat_lt inner.depth MAX_TYPE_DEPTH) refl e
         (ap (λ f. f.bits) same, depth, omega (arith, below, depth))
     by false is e = absurd (cc)
 
-some_of : {A B : Type 0} (f : A → Option B) (o : Option A) (b : B) → option_and_then f o ≡ Some b → (a : A) × (o ≡ Some a) × (f a ≡ Some b)
+pub some_of : {A B : Type 0} (f : A → Option B) (o : Option A) (b : B) → option_and_then f o ≡ Some b → (a : A) × (o ≡ Some a) × (f a ≡ Some b)
 some_of f None b e = absurd (cc)
 some_of f (Some a) b e = (a, refl, e)
 
@@ -266,7 +266,7 @@ module _ (from : SourceModel) where
   by_type sizes all ty s None is e = absurd (cc)
   by_type sizes all ty s (Some (meta.Struct align fs)) is e = struct_holds sizes all ty align fs s is e
   by_type sizes all ty s (Some (meta.Array count item)) is e = array_holds sizes all ty count item s is e
-  by_type sizes all ty s (Some (meta.Integer size align signed order clock)) is e = as_number sizes ty s e
+  by_type sizes all ty s (Some (meta.Integer integer)) is e = as_number sizes ty s e
   by_type sizes all ty s (Some (meta.Enum base labels)) is e = as_number sizes ty s e
   by_type sizes all ty s (Some meta.Str) is e = as_number sizes ty s e
   by_type sizes all ty s (Some (meta.Variant tag fs)) is e = as_number sizes ty s e

@@ -311,7 +311,7 @@ module _ (from : SourceModel) (ty at : ℕ) (plan : HeaderPlan) where
       let names = or_false (is_id from.table last.name) (is_timestamp from.table last.name) tests.0 in
       of_words align fs is last alone tag options there names.0 names.1 tag.scope tag.words refl refl tests.1
   of_last align fs last None is alone there e = absurd (cc)
-  of_last align fs last (Some (meta.Integer size a signed order clock)) is alone there e = absurd (cc)
+  of_last align fs last (Some (meta.Integer integer)) is alone there e = absurd (cc)
   of_last align fs last (Some (meta.Enum base labels)) is alone there e = absurd (cc)
   of_last align fs last (Some meta.Str) is alone there e = absurd (cc)
   of_last align fs last (Some (meta.Struct a gs)) is alone there e = absurd (cc)
@@ -330,7 +330,7 @@ module _ (from : SourceModel) (ty at : ℕ) (plan : HeaderPlan) where
       let tests = if_so (nat_le (length fs) MAX_PLANNED) (planned_behind from.table align fs (behind_numbers from.table fs)) plan e in
       of_behind align fs (behind_numbers from.table fs) is refl tests.1
   of_type_meta None is e = absurd (cc)
-  of_type_meta (Some (meta.Integer size align signed order clock)) is e = absurd (cc)
+  of_type_meta (Some (meta.Integer integer)) is e = absurd (cc)
   of_type_meta (Some (meta.Enum base labels)) is e = absurd (cc)
   of_type_meta (Some meta.Str) is e = absurd (cc)
   of_type_meta (Some (meta.Variant tag fs)) is e = absurd (cc)

@@ -100,7 +100,7 @@ row_of t (Some (meta.Struct align fs)) row e =
     let same : made ≡ row = cc (tests.1) in
     subst (IsRow t (Some (meta.Struct align fs))) same (record { fields = fs; numbers = all_numbers t fs (leb-true (length fs) (length (leading_numbers t None fs)) most.1); is = refl })
 row_of t None row e = absurd (cc)
-row_of t (Some (meta.Integer size align signed order clock)) row e = absurd (cc)
+row_of t (Some (meta.Integer integer)) row e = absurd (cc)
 row_of t (Some (meta.Enum base labels)) row e = absurd (cc)
 row_of t (Some meta.Str) row e = absurd (cc)
 row_of t (Some (meta.Variant tag fs)) row e = absurd (cc)

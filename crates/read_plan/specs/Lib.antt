@@ -1,4 +1,5 @@
 pub mod FixedSizes
 pub mod Headers
 pub mod Lone
+pub mod Placed
 pub mod Singles

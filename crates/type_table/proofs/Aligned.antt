@@ -29,7 +29,7 @@ aligned_based (Array length item) h = (omega arith, refl)
 aligned_based (Sequence length item) h = (omega arith, refl)
 
 aligned_shape : (names : List Text) (ts : List Ty) (t : TypeMeta) → AllAlign ts → IsSound t → Aligns (alignment (shape names ts t))
-aligned_shape names ts (meta.Integer size align signed order map) all sound = (sound.2, sound.3)
+aligned_shape names ts (meta.Integer integer) all sound = (sound.2, sound.3)
 aligned_shape names ts (meta.Enum base labels) all sound = aligned_based (tree_at ts base) (aligned_at ts base all)
 aligned_shape names ts meta.Str all sound = (omega arith, refl)
 aligned_shape names ts (meta.Struct align fields) all sound = sound

@@ -114,7 +114,7 @@ base_same labels (Array n item) h = absurd h
 base_same labels (Sequence n item) h = absurd h
 
 pub factual : (names : List Text) (ts : List Ty) (t : TypeMeta) → RefersIn (length ts) t → IsBased ts t → meta_type_size (map type_size_of ts) t ≡ type_size_of (shape names ts t)
-factual names ts (meta.Integer size align signed order clock) h b = refl
+factual names ts (meta.Integer integer) h b = refl
 factual names ts (meta.Enum base labels) h b = along (λ f. leaf f.align f.may_be_empty) _ _ (facts_known ts base h) ∙ base_same (labels_at names labels) (tree_at ts base) b
 factual names ts meta.Str h b = refl
 factual names ts (meta.Struct align fields) h b =

@@ -1,6 +1,7 @@
 pub mod Aligned
 pub mod EachScope
 pub mod KnownSizes
+pub mod Halves
 pub mod Keeping
 pub mod Rates
 pub mod Sums

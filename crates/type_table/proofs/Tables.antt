@@ -50,7 +50,7 @@ sound_at (u ∷ types) (suc i) t h e = sound_at types i t h.1 e
 
 -- enumerations of integers stay such with more types
 based_more : (few more : List Ty) (n : ℕ) (t : TypeMeta) → n ≤ length few → RefersIn n t → IsBased few t → IsBased (few ++ more) t
-based_more few more n (meta.Integer size align signed order clock) le h b = tt
+based_more few more n (meta.Integer integer) le h b = tt
 based_more few more n (meta.Enum base labels) le h b = subst IsWhole (sym (get_or_append_left few more Str base (omega (arith, le, h)))) b
 based_more few more n meta.Str le h b = tt
 based_more few more n (meta.Struct align fields) le h b = tt
@@ -161,7 +161,7 @@ fields_up n m [] le h = tt
 fields_up n m (f ∷ fs) le h = (omega (arith, le, h.0), fields_up n m fs le h.1)
 
 refers_up : (n m : ℕ) (t : TypeMeta) → n ≤ m → RefersIn n t → RefersIn m t
-refers_up n m (meta.Integer size align signed order clock) le h = tt
+refers_up n m (meta.Integer integer) le h = tt
 refers_up n m (meta.Enum base labels) le h = omega (arith, le, h)
 refers_up n m meta.Str le h = tt
 refers_up n m (meta.Struct align fields) le h = fields_up n m fields le h
@@ -177,7 +177,7 @@ split_at (u ∷ ts) (suc i) t e =
     (u ∷ rest.0, rest.1, along (λ l. u ∷ l) _ _ rest.2, omega (arith, rest.3))
 
 shape_keeps : (names : List Text) (few all : List Ty) (t : TypeMeta) → ((n : ℕ) → n < length few → tree_at all n ≡ tree_at few n) → RefersIn (length few) t → shape names few t ≡ shape names all t
-shape_keeps names few all (meta.Integer size align signed order clock) same h = refl
+shape_keeps names few all (meta.Integer integer) same h = refl
 shape_keeps names few all (meta.Enum base labels) same h = along (λ x. Named (integer_in x) (labels_at names labels)) _ _ (sym (same base h))
 shape_keeps names few all meta.Str same h = refl
 shape_keeps names few all (meta.Struct align fields) same h = along (Struct align) _ _ (fields_keep fields h)

@@ -47,7 +47,7 @@ labels_more names more [] h = refl
 labels_more names more (l ∷ ls) h = along (λ a. record { name = a; low = l.low; high = l.high } ∷ labels_at (names ++ more) ls) _ _ (name_more names more l.name h.0) ∙ along (λ rest. record { name = name_at names l.name; low = l.low; high = l.high } ∷ rest) _ _ (labels_more names more ls h.1)
 
 shape_more : (names more : List Text) (trees : List Ty) (t : TypeMeta) → NamesIn (length names) t → shape (names ++ more) trees t ≡ shape names trees t
-shape_more names more trees (meta.Integer size align signed order map) h = refl
+shape_more names more trees (meta.Integer integer) h = refl
 shape_more names more trees (meta.Enum base labels) h = along (λ ls. Named (integer_in (tree_at trees base)) ls) _ _ (labels_more names more labels h)
 shape_more names more trees meta.Str h = refl
 shape_more names more trees (meta.Struct align fields) h = along (λ fs. Struct align fs) _ _ (fields_more names more trees fields h)
@@ -74,7 +74,7 @@ label_names_more n m [] le h = tt
 label_names_more n m (l ∷ ls) le h = (omega (arith, le, h.0), label_names_more n m ls le h.1)
 
 names_more : (n m : ℕ) (t : TypeMeta) → n ≤ m → NamesIn n t → NamesIn m t
-names_more n m (meta.Integer size align signed order map) le h = tt
+names_more n m (meta.Integer integer) le h = tt
 names_more n m (meta.Enum base labels) le h = label_names_more n m labels le h
 names_more n m meta.Str le h = tt
 names_more n m (meta.Struct align fields) le h = field_names_more n m fields le h

@@ -51,7 +51,7 @@ integer_in _ = record { size = 0; align = 1; signed = false; order = Little; clo
 
 -- a type's tree, where the trees before it are known
 abbrev pub shape : List Text → List Ty → TypeMeta → Ty
-shape names trees (meta.Integer size align signed order map) = Whole (record { size = size; align = align; signed = signed; order = order; clock = map })
+shape names trees (meta.Integer integer) = Whole integer
 shape names trees (meta.Enum base labels) = Named (integer_in (tree_at trees base)) (labels_at names labels)
 shape names trees meta.Str = Str
 shape names trees (meta.Struct align fields) = Struct align (fields_at names trees fields)
@@ -85,7 +85,7 @@ FieldsIn n (f ∷ fs) = (f.ty < n) × FieldsIn n fs
 
 -- a type names only so many types
 abbrev pub RefersIn : ℕ → TypeMeta → Type 0
-RefersIn n (meta.Integer size align signed order map) = Unit {0}
+RefersIn n (meta.Integer integer) = Unit {0}
 RefersIn n (meta.Enum base labels) = base < n
 RefersIn n meta.Str = Unit {0}
 RefersIn n (meta.Struct align fields) = FieldsIn n fields
@@ -116,7 +116,7 @@ LabelNamesIn n (l ∷ ls) = (l.name < n) × LabelNamesIn n ls
 
 -- a type uses only so many names
 abbrev pub NamesIn : ℕ → TypeMeta → Type 0
-NamesIn n (meta.Integer size align signed order map) = Unit {0}
+NamesIn n (meta.Integer integer) = Unit {0}
 NamesIn n (meta.Enum base labels) = LabelNamesIn n labels
 NamesIn n meta.Str = Unit {0}
 NamesIn n (meta.Struct align fields) = FieldNamesIn n fields
@@ -131,7 +131,7 @@ AreRanked names k (t ∷ ts) = NamesIn names t × RefersIn k t × AreRanked name
 
 -- an integer has 1 to 64 bits, and an alignment is one of the powers of two up to 65,536, which are the numbers that divide that
 abbrev pub IsSound : TypeMeta → Type 0
-IsSound (meta.Integer size align signed order map) = (1 ≤ size) × (size ≤ 64) × (1 ≤ align) × (65536 % align ≡ 0)
+IsSound (meta.Integer integer) = (1 ≤ integer.size) × (integer.size ≤ 64) × (1 ≤ integer.align) × (65536 % integer.align ≡ 0)
 IsSound (meta.Struct align fields) = (1 ≤ align) × (65536 % align ≡ 0)
 IsSound _ = Unit {0}
 

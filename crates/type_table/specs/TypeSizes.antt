@@ -40,7 +40,7 @@ leaf align empty = record { align = align; depth = 1; nodes = 1; may_be_empty = 
 
 -- what is known of a type, where those of the types before it are known
 abbrev pub meta_type_size : List TypeSize → TypeMeta → TypeSize
-meta_type_size type_sizes (meta.Integer size align signed order map) = leaf align (nat_eq size 0)
+meta_type_size type_sizes (meta.Integer integer) = leaf integer.align (nat_eq integer.size 0)
 meta_type_size type_sizes (meta.Enum base labels) = leaf (type_size_at type_sizes base).align (type_size_at type_sizes base).may_be_empty
 meta_type_size type_sizes meta.Str = leaf 8 false
 meta_type_size type_sizes (meta.Struct align fields) = record { align = align; depth = suc (sum_of type_sizes fields).depth; nodes = suc (sum_of type_sizes fields).nodes; may_be_empty = (sum_of type_sizes fields).all_empty; has_paths = (sum_of type_sizes fields).any_paths }

@@ -1,23 +1,18 @@
 //! The types of a trace's metadata, by their indices.
+use crate::integer::Integer;
+use crate::labels::Labels;
 use sqlite_items::Items;
-use trace_types::ByteOrderKind;
 
 /// An index in `types`, below that of the type that names it.
 type TypeIndex = u32;
 
 #[derive(Debug, Drop)]
 pub enum TypeMeta {
-    /// `size` bits, from 1 to 64, aligned to `align` bits, a power of two. `map` is an index among the clocks.
-    Integer {
-        size: u32,
-        align: u32,
-        signed: bool,
-        order: ByteOrderKind,
-        map: Option<u32>,
-    },
+    /// `size` bits, from 1 to 64, aligned to `align` bits, a power of two. `clock` is an index among the clocks.
+    Integer(Integer),
     Enum {
         base: TypeIndex,
-        labels: Items<LabelMeta>,
+        labels: Labels,
     },
     /// Bytes up to a zero byte.
     Str,

@@ -39,7 +39,7 @@ pub fn meta_type_size(type_sizes: &[TypeSize], meta: &TypeMeta) -> Option<TypeSi
     ensures none { IfNone result (are_fit (meta_type_size type_sizes.now meta.now) ≡ false) }
 {
     match meta {
-        TypeMeta::Integer { size, align, .. } => Some(leaf(*align, *size == 0)),
+        TypeMeta::Integer(integer) => Some(leaf(integer.align, integer.size == 0)),
         TypeMeta::Enum { base, .. } => {
             let base = type_size_at(type_sizes, *base);
             Some(leaf(base.align, base.may_be_empty))

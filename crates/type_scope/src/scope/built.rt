@@ -18,7 +18,8 @@ use std::alloc::Global;
 use trace_types::{OutOfMemory, Text};
 use tsdl_parser::Label;
 use type_table::{
-    ClockRate, Declared, Fault, Integer, LabelMeta, MetaItemCause, Reference, TypeMeta, split_scope,
+    ClockRate, Declared, Fault, Integer, LabelMeta, Labels, MetaItemCause, Reference, TypeMeta,
+    split_scope,
 };
 
 impl TypeScope {
@@ -43,13 +44,7 @@ impl TypeScope {
         requires { (1 ≤ integer.size) × (integer.size ≤ 64) × (1 ≤ integer.align) × (65536 % integer.align ≡ 0) }
         ensures { Gives (pure (Whole integer) (state self.old).known) result (state self.new) }
     {
-        self.push(TypeMeta::Integer {
-            size: integer.size,
-            align: integer.align,
-            signed: integer.signed,
-            order: integer.order,
-            map: integer.clock,
-        })
+        self.push(TypeMeta::Integer(integer))
     }
 
     /// Adds a string.
@@ -110,7 +105,7 @@ impl TypeScope {
     }
 
     // Labels with their values.
-    fn labels(&mut self, alloc: Global, labels: &[Label]) -> Result<Items<LabelMeta>, Fault>
+    fn labels(&mut self, alloc: Global, labels: &[Label]) -> Result<Labels, Fault>
         ensures stays { OnOk result (state self.new ≡ state self.old) }
         ensures beside { OnOk result (self.new ≡ with_table self.new.table self.old) }
         ensures keeps { OnOk result (Keeps self.old.table self.new.table) }
@@ -127,6 +122,6 @@ impl TypeScope {
             found.push(LabelMeta { name, low, high })?;
             next = behind(high);
         }
-        Ok(found)
+        Ok(Labels::from_items(found))
     }
 }

@@ -25,7 +25,7 @@ impl TypeScope {
         requires { index < length (state self.now).types }
         ensures { result ≡ is_whole (tree_at (state self.now).types index) }
     {
-        matches!(self.table.get(index), TypeMeta::Integer { .. })
+        matches!(self.table.get(index), TypeMeta::Integer(_))
     }
 
     /// Whether it is a structure.

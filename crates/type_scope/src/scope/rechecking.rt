@@ -44,7 +44,7 @@ impl TypeScope {
             return Ok(());
         }
         match self.table.get(index) {
-            TypeMeta::Integer { .. } | TypeMeta::Enum { .. } | TypeMeta::Str => Ok(()),
+            TypeMeta::Integer(_) | TypeMeta::Enum { .. } | TypeMeta::Str => Ok(()),
             TypeMeta::Struct { fields, .. } => {
                 let fields = Items::from_slice(alloc, fields.as_slice())?;
                 self.recheck_inside(alloc, block_context, true, index, fields)

@@ -17,7 +17,7 @@ fn suits(table: &Table, path_use: PathUse, index: u32) -> bool
 {
     match (path_use, table.get(index)) {
         (PathUse::Tag, TypeMeta::Enum { .. }) => true,
-        (PathUse::Length, TypeMeta::Integer { signed, .. }) => !*signed,
+        (PathUse::Length, TypeMeta::Integer(integer)) => !integer.signed,
         _ => false,
     }
 }

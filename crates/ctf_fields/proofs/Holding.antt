@@ -1,0 +1,18 @@
+-- The field of a variant is chosen among the labels that hold the tag's value.
+use Rattle.std.proofs.Common.{◌≡◌, ℤ, Bool, true, false, cond, List, [], ◌∷◌, None, if◌then◌else◌, ap, ap₂, refl, sym}
+use Rattle.type_table.specs.Labels.{holding, holds}
+use Rattle.type_table.specs.Types.{Text}
+use Rattle.type_table.specs.declared.meta.FieldMeta.{FieldMeta}
+use Rattle.type_table.specs.declared.meta.LabelMeta.{LabelMeta}
+use Rattle.ctf_fields.specs.Choice.{by_labels, first_named}
+use Rattle.ctf_fields.specs.Fields.{or_else}
+
+-- labels that don't hold the value are passed over
+pub by_holding : (names : List Text) (v : ℤ) (ls : List LabelMeta) (fs : List FieldMeta) → by_labels names v ls fs ≡ by_labels names v (holding v ls) fs
+by_holding names v [] fs = refl
+by_holding names v (l ∷ ls) fs = by (holds v l) refl (by_holding names v ls fs)
+  where
+    by : (b : Bool) → holds v l ≡ b → by_labels names v ls fs ≡ by_labels names v (holding v ls) fs
+        → or_else (if b then first_named names l.name fs else None) (by_labels names v ls fs) ≡ by_labels names v (cond b (l ∷ holding v ls) (holding v ls)) fs
+    by true is rest = ap₂ or_else (sym (ap (λ (b : Bool). if b then first_named names l.name fs else None) is)) rest
+    by false is rest = rest
