@@ -26,5 +26,5 @@ pub use laws::{named_line, one_list};
 pub use list::{ListError, read_list};
 pub use spelled::{name_of, names_of, spell_bytes};
 pub use split::split_hosts;
-pub use trace::{MergedTrace, NameList};
+pub use trace::MergedTrace;
 pub use write::{append_head, append_line, write_line};

@@ -12,10 +12,11 @@ ghost use Rattle.event_list.specs.declared.parsed_line.ParsedLine.{ParsedLine};
 use crate::line::read_event;
 use crate::names::NameTable;
 use crate::numbering::Numbering;
-use crate::trace::{MergedTrace, NameList};
+use crate::trace::{MergedTrace, copy_names};
 use crate::words::split_words;
+use sqlite_items::Items;
 use std::alloc::{AllocFailed, Global};
-use trace_types::{MAX_EVENTS, Merged, OutOfMemory, cut_at};
+use trace_types::{MAX_EVENTS, Merged, OutOfMemory, Text, cut_at};
 
 const FIRST_LINE: &[u8] = b"hosttrace events 1";
 
@@ -130,13 +131,17 @@ fn host_count(events: &[Merged]) -> u32
 }
 
 // The names of so many hosts.
-fn name_lists(alloc: Global, tables: &[NameTable], hosts: u32) -> Result<Vec<NameList>, OutOfMemory>
+fn name_lists(
+    alloc: Global,
+    tables: &[NameTable],
+    hosts: u32,
+) -> Result<Vec<Items<Text>>, OutOfMemory>
     requires { hosts ≤ length tables.now }
     ensures { IfOk result (λ names. names.items ≡ take hosts tables.now) }
 {
     let mut names = Vec::new(alloc);
     for table in &tables[..hosts as usize] {
-        names.push(NameList::from_slice(alloc, table.as_slice())?)?;
+        names.push(Items::from_vec(copy_names(alloc, table.as_slice())?))?;
     }
     Ok(names)
 }

@@ -5,11 +5,11 @@ ghost use Rattle.event_list.specs.Lines.{AreBytes};
 ghost use Rattle.event_list.specs.Names.{names_at};
 ghost use Rattle.event_list.specs.Written.{SpellBytes, name_parsed, texts_in};
 
-use crate::trace::NameList;
+use sqlite_items::Items;
 use trace_types::{Comm, KernelEvent, Merged, Text};
 
 /// The event names of a host; none where it has no list.
-pub fn names_of(names: &[NameList], host: u32) -> &[Text]
+pub fn names_of(names: &[Items<Text>], host: u32) -> &[Text]
     ensures { result.now ≡ names_at names.now host }
 {
     match names.get(host as usize) {
@@ -35,7 +35,7 @@ pub fn name_of<'a>(names: &'a [Text], event: &KernelEvent) -> &'a [u8]
 }
 
 /// All texts that the lines of events spell are bytes. This does nothing: it is called for what it ensures.
-pub fn spell_bytes(names: &[NameList], events: &[Merged])
+pub fn spell_bytes(names: &[Items<Text>], events: &[Merged])
     ensures { SpellBytes (names_at names.now) events.now }
 {
     for event in events {

@@ -5,7 +5,8 @@ ghost use Rattle.trace_types.specs.declared.event.Merged.{Merged};
 ghost use Rattle.event_list.specs.Splits.{AreHostsFrom, IsHostOf};
 
 use crate::narrow::narrow;
-use crate::trace::{MergedTrace, NameList, copy_names};
+use crate::trace::{MergedTrace, copy_names};
+use sqlite_items::Items;
 use std::alloc::Global;
 use trace_types::{Event, HostEvents, Merged, OutOfMemory, Text};
 
@@ -25,7 +26,7 @@ pub fn split_hosts(trace: &MergedTrace) -> Result<Vec<HostEvents>, OutOfMemory>
 }
 
 // A host without events for each list of names.
-fn empty_hosts(alloc: Global, lists: &[NameList]) -> Result<Vec<HostEvents>, OutOfMemory>
+fn empty_hosts(alloc: Global, lists: &[Items<Text>]) -> Result<Vec<HostEvents>, OutOfMemory>
     requires { length lists.now < 2 ^ 32 }
     ensures { IfOk result (λ hosts. AreHostsFrom [] 0 lists.now hosts.items) }
 {
@@ -36,7 +37,7 @@ fn empty_hosts(alloc: Global, lists: &[NameList]) -> Result<Vec<HostEvents>, Out
     Ok(hosts)
 }
 
-fn empty_host(alloc: Global, host: u32, list: &NameList) -> Result<HostEvents, OutOfMemory>
+fn empty_host(alloc: Global, host: u32, list: &Items<Text>) -> Result<HostEvents, OutOfMemory>
     ensures { IfOk result (λ found. IsHostOf [] host list.now found) }
 {
     Ok(HostEvents {

@@ -20,10 +20,11 @@ use crate::folders::{is_crowd, too_large};
 use crate::status::{Limit, Refusal, Status};
 use crate::trace_files::read_trace_files;
 use decode_pool::{DecodeError, HostFiles, decode_all};
-use event_list::{MergedTrace, NameList};
+use event_list::MergedTrace;
 use host_sync::{SyncedHosts, synchronize};
 use ht_outside::Store;
 use report_views::report;
+use sqlite_items::Items;
 use std::alloc::Global;
 use std::thread::Threads;
 use trace_types::{HostEvents, MAX_HOSTS, OutOfMemory, Text};
@@ -154,12 +155,12 @@ fn merged_trace(alloc: Global, cluster: Cluster) -> Result<MergedTrace, OutOfMem
 }
 
 // The event names of each host.
-fn names_of(alloc: Global, hosts: Vec<HostEvents>) -> Result<Vec<NameList>, OutOfMemory>
+fn names_of(alloc: Global, hosts: Vec<HostEvents>) -> Result<Vec<Items<Text>>, OutOfMemory>
     ensures { IfOk result (λ names. names.items ≡ map (λ host. host.names.items) hosts.items) }
 {
     let mut names = Vec::new(alloc);
     for host in hosts {
-        names.push(NameList::from_vec(host.names))?;
+        names.push(Items::from_vec(host.names))?;
     }
     Ok(names)
 }

@@ -10,9 +10,10 @@ ghost use Rattle.ht_outside.specs.Faults.{IsCaused};
 ghost use Rattle.ht_outside.specs.declared.sink.SinkError.TheVariants.{Failed};
 
 use crate::writing::write_text;
-use event_list::{NameList, append_head, append_line, names_of};
+use event_list::{append_head, append_line, names_of};
 use ht_outside::{Sink, SinkError};
 use report_views::long_word;
+use sqlite_items::Items;
 use std::alloc::Global;
 use trace_types::{Merged, OutOfMemory, Text};
 
@@ -22,8 +23,8 @@ const LINE: usize = 128;
 /// Writes the lines of events one by one. `words` are those of all names; a long one goes from there to the sink.
 pub fn write_each<K: Sink>(
     alloc: Global,
-    names: &[NameList],
-    words: &[NameList],
+    names: &[Items<Text>],
+    words: &[Items<Text>],
     events: &[Merged],
     sink: &mut K,
 ) -> Result<(), SinkError>
@@ -41,8 +42,8 @@ pub fn write_each<K: Sink>(
 // Writes the line of an event.
 fn write_event<K: Sink>(
     alloc: Global,
-    names: &[NameList],
-    words: &[NameList],
+    names: &[Items<Text>],
+    words: &[Items<Text>],
     event: &Merged,
     sink: &mut K,
 ) -> Result<(), SinkError>

@@ -10,12 +10,13 @@ ghost use Rattle.ht_outside.specs.declared.sink.SinkError.TheVariants.{Failed};
 
 use crate::long_lines::write_each;
 use crate::writing::write_text;
-use event_list::{MergedTrace, NameList};
+use event_list::MergedTrace;
 use ht_outside::{Sink, SinkError};
 use report_views::{batch_length, batch_texts, events_head, spelled_names};
+use sqlite_items::Items;
 use std::alloc::Global;
 use std::thread::Threads;
-use trace_types::{Merged, OutOfMemory};
+use trace_types::{Merged, OutOfMemory, Text};
 
 /// What a command writes.
 #[derive(Drop)]
@@ -66,8 +67,8 @@ fn write_events<K: Sink>(
 fn write_batches<K: Sink>(
     threads: &(impl Threads + Sync),
     alloc: Global,
-    names: &[NameList],
-    words: Option<&[NameList]>,
+    names: &[Items<Text>],
+    words: Option<&[Items<Text>]>,
     events: &[Merged],
     sink: &mut K,
 ) -> Result<(), SinkError>
@@ -90,8 +91,8 @@ fn write_batches<K: Sink>(
 fn write_batch<K: Sink>(
     threads: &(impl Threads + Sync),
     alloc: Global,
-    names: &[NameList],
-    words: Option<&[NameList]>,
+    names: &[Items<Text>],
+    words: Option<&[Items<Text>]>,
     events: &[Merged],
     sink: &mut K,
 ) -> Result<(), SinkError>
@@ -110,7 +111,7 @@ fn write_batch<K: Sink>(
 fn write_side_by_side<K: Sink>(
     threads: &(impl Threads + Sync),
     alloc: Global,
-    names: &[NameList],
+    names: &[Items<Text>],
     events: &[Merged],
     sink: &mut K,
 ) -> Result<(), SinkError>

@@ -1,5 +1,6 @@
 //! Lists of many names and of many hosts.
-use event_list::{MergedTrace, NameList, read_list, split_hosts};
+use event_list::{MergedTrace, read_list, split_hosts};
+use sqlite_items::Items;
 use std::alloc::AllocGlobal;
 use std::io::Write;
 use std::process::Abort;
@@ -34,7 +35,7 @@ fn last_host<R: AllocGlobal + Threads + Sync + Abort>(
 ) -> Result<Option<u32>, Fail> {
     let mut names = Vec::new(rt.alloc());
     for _ in 0..count {
-        names.push(NameList::new(rt.alloc()))?;
+        names.push(Items::new(rt.alloc()))?;
     }
     if names.len() > 100_000 {
         panic!(rt; "at most 100,000 hosts");

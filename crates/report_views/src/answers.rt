@@ -8,11 +8,12 @@ ghost use Rattle.report_views.specs.AnswersText.{asked_text, answer_text};
 ghost use Rattle.report_views.specs.Asked.{IsTimely};
 
 use crate::value_text::write_value;
-use event_list::{MergedTrace, NameList};
+use event_list::MergedTrace;
 use history_core::{Answer, Question, history_of};
+use sqlite_items::Items;
 use std::alloc::Global;
 use std::io::Write;
-use trace_types::OutOfMemory;
+use trace_types::{OutOfMemory, Text};
 
 /// The answers to questions about any path, a line each, in their order. The only error is lack of memory.
 pub fn answers_text(
@@ -36,7 +37,7 @@ pub fn answers_text(
 // A question with its answer.
 fn write_answer(
     alloc: Global,
-    names: &[NameList],
+    names: &[Items<Text>],
     question: &Question,
     answer: &Answer,
     out: &mut Vec<u8>,

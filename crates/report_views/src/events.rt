@@ -5,11 +5,12 @@ ghost use Rattle.event_list.specs.Names.{names_at};
 ghost use Rattle.report_views.specs.Stretches.{IsStretchText, printed_size};
 
 use crate::long_names::are_all_short;
-use event_list::{NameList, append_line, name_of, names_of};
+use event_list::{append_line, name_of, names_of};
 use rayon::prelude::*;
+use sqlite_items::Items;
 use std::alloc::Global;
 use std::thread::Threads;
-use trace_types::{Merged, OutOfMemory};
+use trace_types::{Merged, OutOfMemory, Text};
 
 const FIRST_LINE: &[u8] = b"hosttrace events 1\n";
 
@@ -36,7 +37,7 @@ pub fn events_head() -> &'static [u8]
 }
 
 /// How many of the first events make a batch: at least one, where there is one, and as many as may be.
-pub fn batch_length(names: &[NameList], events: &[Merged]) -> usize
+pub fn batch_length(names: &[Items<Text>], events: &[Merged]) -> usize
     ensures some { 0 < length events.now → 0 < result }
     ensures within { result ≤ length events.now }
     ensures few { result ≤ BATCH_LENGTH }
@@ -52,7 +53,7 @@ pub fn batch_length(names: &[NameList], events: &[Merged]) -> usize
 }
 
 // How many of the first events have names of at most `NAMES_SIZE` bytes together; at least one, where there is one.
-fn small_length(names: &[NameList], events: &[Merged]) -> usize
+fn small_length(names: &[Items<Text>], events: &[Merged]) -> usize
     ensures some { 0 < length events.now → 0 < result }
     ensures within { result ≤ length events.now }
     ensures small { 1 < result → printed_size (names_at names.now) (take result events.now) ≤ NAMES_SIZE }
@@ -73,7 +74,7 @@ fn small_length(names: &[NameList], events: &[Merged]) -> usize
 pub fn batch_texts(
     threads: &(impl Threads + Sync),
     alloc: Global,
-    names: &[NameList],
+    names: &[Items<Text>],
     events: &[Merged],
 ) -> Result<Vec<Vec<u8>>, OutOfMemory>
     ensures { IfOk result (λ texts. IsStretchText (names_at names.now) events.now (flat_map (λ text. text.items) texts.items)) }
@@ -92,7 +93,7 @@ pub fn batch_texts(
 // The lines of a stretch.
 fn write_stretch(
     alloc: Global,
-    names: &[NameList],
+    names: &[Items<Text>],
     events: &[Merged],
 ) -> Result<Vec<u8>, OutOfMemory>
     ensures { IfOk result (λ text. IsStretchText (names_at names.now) events.now text.items) }

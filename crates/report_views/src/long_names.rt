@@ -6,7 +6,8 @@ ghost use Rattle.event_list.specs.Written.{name_parsed};
 ghost use Rattle.report_views.specs.LongNames.{AreSpelled};
 ghost use Rattle.report_views.specs.Stretches.{AreShort};
 
-use event_list::{NameList, name_of, names_of};
+use event_list::{name_of, names_of};
+use sqlite_items::Items;
 use std::alloc::Global;
 use trace_types::{Merged, OutOfMemory, Text, write_byte_text};
 
@@ -17,8 +18,8 @@ pub const LONG_NAME: usize = 1_024;
 /// lack of memory.
 pub fn spelled_names(
     alloc: Global,
-    names: &[NameList],
-) -> Result<Option<Vec<NameList>>, OutOfMemory>
+    names: &[Items<Text>],
+) -> Result<Option<Vec<Items<Text>>>, OutOfMemory>
     ensures some { IfOk result (λ words. IfSome words (λ w. AreSpelled names.now w.items)) }
     ensures long { IfOk result (λ words. OnSome words (¬ (All (AreShort LONG_NAME) names.now))) }
     ensures none { IfOk result (λ words. IfNone words (All (AreShort LONG_NAME) names.now)) }
@@ -30,7 +31,7 @@ pub fn spelled_names(
 }
 
 /// Whether no name of any host has more bytes.
-pub fn are_all_short(names: &[NameList], most: usize) -> bool
+pub fn are_all_short(names: &[Items<Text>], most: usize) -> bool
     ensures { IsTrue result ↔ All (AreShort most) names.now }
 {
     names.iter().all(|names| are_short(names.as_slice(), most))
@@ -43,7 +44,7 @@ fn are_short(names: &[Text], most: usize) -> bool
 }
 
 // The words of all hosts' names.
-fn spell_lists(alloc: Global, names: &[NameList]) -> Result<Vec<NameList>, OutOfMemory>
+fn spell_lists(alloc: Global, names: &[Items<Text>]) -> Result<Vec<Items<Text>>, OutOfMemory>
     ensures { IfOk result (λ words. AreSpelled names.now words.items) }
 {
     let mut words = Vec::new(alloc);
@@ -54,14 +55,14 @@ fn spell_lists(alloc: Global, names: &[NameList]) -> Result<Vec<NameList>, OutOf
 }
 
 // The words of a host's names.
-fn spell_list(alloc: Global, names: &[Text]) -> Result<NameList, OutOfMemory>
+fn spell_list(alloc: Global, names: &[Text]) -> Result<Items<Text>, OutOfMemory>
     ensures { IfOk result (λ words. words ≡ map byte_text names.now) }
 {
     let mut words = Vec::new(alloc);
     for name in names {
         words.push(spell_name(alloc, name.as_bytes())?)?;
     }
-    Ok(NameList::from_vec(words))
+    Ok(Items::from_vec(words))
 }
 
 fn spell_name(alloc: Global, name: &[u8]) -> Result<Text, OutOfMemory>
@@ -73,7 +74,11 @@ fn spell_name(alloc: Global, name: &[u8]) -> Result<Text, OutOfMemory>
 }
 
 /// The word that stands for the name of an event, where that name is long. `words` are those of all names.
-pub fn long_word<'a>(names: &[NameList], words: &'a [NameList], event: &Merged) -> Option<&'a [u8]>
+pub fn long_word<'a>(
+    names: &[Items<Text>],
+    words: &'a [Items<Text>],
+    event: &Merged,
+) -> Option<&'a [u8]>
     requires { AreSpelled names.now words.now }
     ensures some { IfSome result (λ word. word.now ≡ byte_text (name_parsed (names_at names.now event.now.event.host) event.now.event.kind)) }
     ensures long { OnSome result (LONG_NAME < length (name_parsed (names_at names.now event.now.event.host) event.now.event.kind)) }

@@ -9,10 +9,11 @@ ghost use Rattle.report_views.specs.StateText.{IsStateText, IsNotAfter, row_text
 
 use crate::rows::{Row, rows_at};
 use crate::value_text::write_value;
-use event_list::{MergedTrace, NameList};
+use event_list::MergedTrace;
+use sqlite_items::Items;
 use std::alloc::Global;
 use std::io::Write;
-use trace_types::{OutOfMemory, Value};
+use trace_types::{OutOfMemory, Text, Value};
 
 /// The text of the state at an instant. The only error is lack of memory.
 pub fn state_text(alloc: Global, trace: &MergedTrace, at: u64) -> Result<Vec<u8>, OutOfMemory>
@@ -37,7 +38,7 @@ fn sort_rows(rows: &mut [Row])
 }
 
 // A line for each row that has a value.
-fn rows_text(alloc: Global, names: &[NameList], rows: &[Row]) -> Result<Vec<u8>, OutOfMemory>
+fn rows_text(alloc: Global, names: &[Items<Text>], rows: &[Row]) -> Result<Vec<u8>, OutOfMemory>
     ensures { IfOk result (λ text. text.items ≡ flat_map (row_text (names_at names.now)) (filter has_value rows.now)) }
 {
     let mut text = Vec::new(alloc);
@@ -51,7 +52,7 @@ fn rows_text(alloc: Global, names: &[NameList], rows: &[Row]) -> Result<Vec<u8>,
 
 fn write_row(
     alloc: Global,
-    names: &[NameList],
+    names: &[Items<Text>],
     row: &Row,
     out: &mut Vec<u8>,
 ) -> Result<(), OutOfMemory>

@@ -5,15 +5,15 @@ ghost use Rattle.event_list.specs.Names.{names_at};
 ghost use Rattle.report_views.specs.Values.{host_of, int_text, value_text};
 
 use crate::call_name::call_name;
-use event_list::NameList;
+use sqlite_items::Items;
 use std::alloc::Global;
 use std::io::Write;
-use trace_types::{OutOfMemory, Path, ThreadLeaf, Value, thread_status, write_byte_text};
+use trace_types::{OutOfMemory, Path, Text, ThreadLeaf, Value, thread_status, write_byte_text};
 
 /// Appends a path's value: its kind and itself. A call has its name, among those of the path's host in `names`.
 pub fn write_value(
     alloc: Global,
-    names: &[NameList],
+    names: &[Items<Text>],
     path: Path,
     value: &Value,
     out: &mut Vec<u8>,
@@ -36,7 +36,7 @@ pub fn write_value(
 }
 
 // The name of a number, among those of a host; the empty one where there is none.
-fn name_of(names: &[NameList], host: u32, number: u32) -> &[u8]
+fn name_of(names: &[Items<Text>], host: u32, number: u32) -> &[u8]
     ensures { result.now ≡ name_at (names_at names.now host) number }
 {
     let Some(names) = names.get(host as usize) else {
