@@ -1,5 +1,5 @@
 -- A packet's events, each made a kernel event as it is read.
-use Rattle.std.proofs.Common.{◌≡◌, ◌∙◌, ℕ, ◌+◌, ◌≤◌, Bool, true, false, if◌then◌else◌, nat_le, List, [], ◌∷◌, ◌++◌, append_assoc, append-nil, length, map, Option, None, Some, Result, Ok, Err, refl, sym, ap, ap₂, arith}
+use Rattle.std.proofs.Common.{◌≡◌, ◌∙◌, ℕ, ◌+◌, ◌≤◌, Bool, true, false, if◌then◌else◌, nat_le, List, [], ◌∷◌, ◌++◌, append_assoc, append-nil, length, map, Option, None, Some, Result, Ok, Err, refl, sym, ap, ap₂, subst, arith}
 use Rattle.std.proofs.lemmas.Bool.{leb-true}
 use Rattle.std.proofs.lemmas.List.{length-append}
 use Rattle.type_table.specs.TraceMetas.{TraceMetaModel}
@@ -9,10 +9,11 @@ use Rattle.trace_types.specs.declared.cause.Cause.{Cause}
 use Rattle.packet_decoder.specs.Events.{as_packet}
 use Rattle.packet_decoder.specs.EventReaders.{IsReadAs, and_before, refusal}
 use Rattle.packet_decoder.specs.declared.piece.PacketSpan.{PacketSpan}
-use Rattle.read_plan.specs.FixedSizes.{skip_at}
-use Rattle.kernel_layout.specs.Kinds.{kind_of}
+use Rattle.packet_decoder.specs.declared.events.ReadEvent.{ReadEvent}
+use Rattle.kernel_layout.specs.Kinds.{kind_by, kind_of, name_of}
 use Rattle.kernel_layout.specs.Tracepoints.{skips_of}
-use Rattle.kernel_layout.proofs.PassedOver.{one_kind}
+use Rattle.read_plan.specs.Placed.{AreFieldsOf}
+use Rattle.ctf_fields.specs.declared.field.Field.{Field}
 use Rattle.trace_types.specs.declared.event.KernelEvent.{KernelEvent}
 use Rattle.decode_pool.specs.declared.decoded_packet.AcceptedPacket.{AcceptedPacket}
 use Rattle.decode_pool.specs.declared.decoded_packet.DecodedPacket.{DecodedPacket}
@@ -46,12 +47,18 @@ one_more host meta span events incomplete n raw (Err cause) e = refl
 pub at_last : (host : ℕ) (meta : TraceMetaModel) (span : PacketSpan) (events : List Event) (incomplete : ℕ) → with_left host meta span events incomplete (Ok []) ≡ part.Accepted (kept_so_far span events incomplete)
 at_last host meta span events incomplete = let none : incomplete + 0 ≡ incomplete = omega arith in ap₂ (λ es n. part.Accepted (kept_so_far span es n)) (append-nil events) none
 
--- an event whose fields may be passed over is, as it was read, what it is whole
-pub one_event : (host : ℕ) (meta : TraceMetaModel) (skips : List (Option ℕ)) (raw whole : RawEvent) → skips ≡ skips_of meta → IsReadAs skips whole raw
-    → (kind_of meta raw ≡ kind_of meta whole) × (event_of host meta raw ≡ event_of host meta whole)
-one_event host meta skips raw whole is read =
-    let kind = one_kind meta raw whole read.event (λ none. read.fields (ap (λ s. skip_at s raw.event) is ∙ none)) in
-    (kind, by raw.time whole.time raw.cpu whole.cpu (kind_of meta raw) (kind_of meta whole) read.time read.cpu kind)
+-- an event that is made of what was read is what is made of it whole
+pub one_event : (host : ℕ) (m meta : TraceMetaModel) (bytes bytes' : List ℕ) (end end' : ℕ) (skips : List (Option ℕ)) (read : ReadEvent) (whole : RawEvent) (kind : KernelEvent × Bool)
+    → m ≡ meta → bytes' ≡ bytes → end' ≡ end → skips ≡ skips_of meta → IsReadAs m bytes end skips whole read
+    → ((f : Field) → AreFieldsOf meta bytes' end' (skips_of meta) read.raw.event f read.raw.fields read.fields_at → kind ≡ kind_by meta (name_of meta read.raw.event) f)
+    → (Path Event (record { time = read.raw.time; host = host; cpu = read.raw.cpu; kind = kind.0 }) (event_of host meta whole)) × (kind ≡ kind_of meta whole)
+one_event host m meta bytes bytes' end end' skips read whole kind same_meta same_bytes same_end same_skips so kinds =
+    let from_bytes = subst (λ x. AreFieldsOf m x end skips read.raw.event whole.fields read.raw.fields read.fields_at) (sym same_bytes) so.fields in
+    let to_end = subst (λ x. AreFieldsOf m bytes' x skips read.raw.event whole.fields read.raw.fields read.fields_at) (sym same_end) from_bytes in
+    let by_skips = subst (λ x. AreFieldsOf m bytes' end' x read.raw.event whole.fields read.raw.fields read.fields_at) same_skips to_end in
+    let fields = subst (λ x. AreFieldsOf x bytes' end' (skips_of meta) read.raw.event whole.fields read.raw.fields read.fields_at) same_meta by_skips in
+    let same : kind ≡ kind_of meta whole = kinds whole.fields fields ∙ ap (λ event. kind_by meta (name_of meta event) whole.fields) so.event in
+    (by read.raw.time whole.time read.raw.cpu whole.cpu kind (kind_of meta whole) so.time so.cpu same, same)
   where
     by : (time time' cpu cpu' : ℕ) (k k' : KernelEvent × Bool) → time ≡ time' → cpu ≡ cpu' → k ≡ k' → Path Event (record { time = time; host = host; cpu = cpu; kind = k.0 }) (record { time = time'; host = host; cpu = cpu'; kind = k'.0 })
     by time time' cpu cpu' k k' t c e =

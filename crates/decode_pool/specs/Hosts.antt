@@ -54,6 +54,12 @@ abbrev pub all_incomplete : ℕ → TraceMetaModel → List FileBytes → ℕ
 all_incomplete host meta [] = 0
 all_incomplete host meta (f ∷ fs) = incomplete_in (accepted_in (parts_of host meta f.bytes.items)) + all_incomplete host meta fs
 
+-- a host's number, its name and the names of its events
+pub record IsCalledAs (host : HostFiles) (found : HostEvents) : Type 0 where
+  pub number : found.host ≡ host.host
+  pub hostname : found.hostname ≡ unwrap_or host.meta.declared.hostname []
+  pub names : found.names.items ≡ host.meta.declared.event_names
+
 -- what a host's files hold together
 pub record IsHost (host : HostFiles) (found : HostEvents) : Type 0 where
   pub number : found.host ≡ host.host

@@ -11,8 +11,8 @@ ghost use Rattle.decode_pool.specs.Excess.{part_events, part_within};
 ghost use Rattle.decode_pool.specs.Parts.{part_of, part_of_packet};
 ghost use Rattle.decode_pool.specs.declared.decoded_packet.DecodedPacket.TheVariants as part;
 
-use kernel_layout::{Layout, kind_of};
-use packet_decoder::{Counter, EventReader, Failure, PacketSpan, Piece};
+use kernel_layout::{Layout, kind_from};
+use packet_decoder::{Counter, EventReader, Failure, PacketSpan, Piece, ReadEvent};
 use sqlite_items::Items;
 use std::alloc::Global;
 use trace_types::{Cause, Event, OutOfMemory};
@@ -123,7 +123,7 @@ fn plan_headers(
 }
 
 // A packet with its events, of which each is made a kernel event as it is read, so that its fields' memory is used again.
-// Fields that no kind needs are passed over. Where there are more than `most`, the packet is read to its end all the
+// Fields that no kind needs, or that are read by a plan, are passed over. Where there are more than `most`, the packet is read to its end all the
 // same, since it may be refused there.
 fn accept_packet(
     alloc: Global,
@@ -146,13 +146,14 @@ fn accept_packet(
     let mut events = Items::new(alloc);
     let mut incomplete = 0u64;
     let skips = layout.skips(meta);
-    while let Some(raw) = reader.next_event_of(alloc, skips)? {
+    while let Some(read) = reader.next_event_of(alloc, skips)? {
         if events.len() as u64 >= most {
             drop(events);
             reader.skip_rest(alloc, skips)?;
             return Ok(None);
         }
-        let (kind, lacks) = kind_of(meta, layout, &raw);
+        let ReadEvent { raw, fields_at } = read;
+        let (kind, lacks) = kind_from(meta, layout, &raw, reader.bits(), fields_at);
         events.push(Event {
             time: raw.time,
             host,

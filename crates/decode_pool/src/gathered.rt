@@ -7,29 +7,13 @@ ghost use Rattle.decode_pool.specs.Marks.{file_events, accepted_in};
 use crate::decoded_packet::{DecodedPacket, part_events};
 use crate::listing::add_file_events;
 use std::alloc::Global;
-use trace_types::{Event, OutOfMemory, RefusedPacket, Text};
+use trace_types::{Event, HostEvents, OutOfMemory, RefusedPacket, Text};
 
-/// The events of files in the order of the files, what was refused in them, how many packets were accepted, and how
-/// many events lack a field.
-#[derive(Debug, Drop)]
-pub struct Gathered {
-    pub events: Vec<Event>,
-    pub refused: Vec<RefusedPacket>,
-    pub packets: u64,
-    pub incomplete: u64,
-}
-
-/// Nothing yet, with room for the events of all of these parts and a mark before those of each.
-pub fn with_room(alloc: Global, parts: &[DecodedPacket]) -> Result<Gathered, OutOfMemory>
-    ensures { IfOk result (λ g. (g.events.items ≡ []) × (g.refused.items ≡ []) × (g.packets ≡ 0) × (g.incomplete ≡ 0)) }
+/// No events yet, with room for those of all of these parts and a mark before those of each.
+pub fn with_room(alloc: Global, parts: &[DecodedPacket]) -> Result<Vec<Event>, OutOfMemory>
+    ensures { IfOk result (λ events. events.items ≡ []) }
 {
-    let events = Vec::with_capacity(alloc, most_listed(parts)?)?;
-    Ok(Gathered {
-        events,
-        refused: Vec::new(alloc),
-        packets: 0,
-        incomplete: 0,
-    })
+    Ok(Vec::with_capacity(alloc, most_listed(parts)?)?)
 }
 
 // How many events parts give at most, with a mark before those of each.
@@ -43,13 +27,14 @@ fn most_listed(parts: &[DecodedPacket]) -> Result<usize, OutOfMemory>
     Ok(events as usize)
 }
 
-/// Adds what the pieces of one more file hold.
+/// Adds what the pieces of one more file of a host hold, whose events stay in the order of the files.
 pub fn add_parts(
     alloc: Global,
     name: &Text,
     parts: &[DecodedPacket],
-    gathered: &mut Gathered,
+    gathered: &mut HostEvents,
 ) -> Result<(), OutOfMemory>
+    ensures host { OnOk result ((gathered.new.host ≡ gathered.old.host) × (gathered.new.hostname ≡ gathered.old.hostname) × (gathered.new.names ≡ gathered.old.names)) }
     ensures events { OnOk result (gathered.new.events.items ≡ gathered.old.events.items ++ file_events parts.now) }
     ensures refused { OnOk result (gathered.new.refused.items ≡ gathered.old.refused.items ++ refused_in name.now parts.now) }
     ensures packets { OnOk result (gathered.new.packets ≡ gathered.old.packets + length (accepted_in parts.now)) }

@@ -1,19 +1,19 @@
 //! The events of hosts.
-ghost use Rattle.std.specs.Prelude.{◌≡◌, IfOk};
+ghost use Rattle.std.specs.Prelude.{◌≡◌, [], IfOk};
 ghost use Rattle.std.specs.List.{AllByRecursion};
-ghost use Rattle.decode_pool.specs.Hosts.{IsHost, IsSmall, all_events, all_incomplete, all_packets, all_parts, all_refused, part_counts};
+ghost use Rattle.decode_pool.specs.Hosts.{IsCalledAs, IsHost, IsSmall, all_events, all_incomplete, all_packets, all_parts, all_refused, part_counts};
 ghost use Rattle.decode_pool.specs.Jobs.{HasParts};
 
 use crate::batches::parts_within;
 use crate::decoded_packet::DecodedPacket;
 use crate::files::FileBytes;
-use crate::gathered::{Gathered, add_parts, with_room};
+use crate::gathered::{add_parts, with_room};
 use crate::pieces::{Limits, cut_host};
 use kernel_layout::Layout;
 use stable_sort::sort_by_time;
 use std::alloc::Global;
 use std::thread::Threads;
-use trace_types::{HostEvents, OutOfMemory, Text};
+use trace_types::{Event, HostEvents, OutOfMemory, Text};
 use type_table::TraceMeta;
 
 /// More than any memory holds.
@@ -73,34 +73,25 @@ pub fn host_list(alloc: Global, own: HostParts<'_>) -> Result<HostEvents, OutOfM
     let mut gathered = gather(alloc, host, own.parts.as_slice(), own.counts)?;
     drop(own);
     sort_by_time(alloc, &mut gathered.events)?;
-    let names = names_of(alloc, &host.meta)?;
-    let hostname = Text::from_bytes(alloc, host.meta.hostname())?;
-    Ok(HostEvents {
-        host: host.host,
-        hostname,
-        names,
-        events: gathered.events,
-        refused: gathered.refused,
-        packets: gathered.packets,
-        incomplete: gathered.incomplete,
-    })
+    Ok(gathered)
 }
 
-// What the parts of all files give together, where each file has so many.
+// What the parts of all files give together, where each file has so many. The events stand in the order of the files.
 fn gather(
     alloc: Global,
     host: &HostFiles,
     parts: &[DecodedPacket],
     counts: &[usize],
-) -> Result<Gathered, OutOfMemory>
+) -> Result<HostEvents, OutOfMemory>
     requires parts { parts.now ≡ all_parts host.now.host host.now.meta host.now.files.items }
     requires counts { counts.now ≡ part_counts host.now.host host.now.meta host.now.files.items }
+    ensures host { IfOk result (IsCalledAs host.now) }
     ensures events { IfOk result (λ g. g.events.items ≡ all_events host.now.host host.now.meta host.now.files.items) }
     ensures refused { IfOk result (λ g. g.refused.items ≡ all_refused host.now.host host.now.meta host.now.files.items) }
     ensures packets { IfOk result (λ g. g.packets ≡ all_packets host.now.host host.now.meta host.now.files.items) }
     ensures incomplete { IfOk result (λ g. g.incomplete ≡ all_incomplete host.now.host host.now.meta host.now.files.items) }
 {
-    let mut gathered = with_room(alloc, parts)?;
+    let mut gathered = without_events(alloc, host, with_room(alloc, parts)?)?;
     let mut left = parts;
     for at in 0..host.files.len() {
         let (own, behind) = left.split_at(counts[at]);
@@ -108,6 +99,29 @@ fn gather(
         left = behind;
     }
     Ok(gathered)
+}
+
+// A host of which no events are known yet, with room for them.
+fn without_events(
+    alloc: Global,
+    host: &HostFiles,
+    room: Vec<Event>,
+) -> Result<HostEvents, OutOfMemory>
+    requires { room.items ≡ [] }
+    ensures host { IfOk result (IsCalledAs host.now) }
+    ensures none { IfOk result (λ g. (g.events.items ≡ []) × (g.refused.items ≡ []) × (g.packets ≡ 0) × (g.incomplete ≡ 0)) }
+{
+    let names = names_of(alloc, &host.meta)?;
+    let hostname = Text::from_bytes(alloc, host.meta.hostname())?;
+    Ok(HostEvents {
+        host: host.host,
+        hostname,
+        names,
+        events: room,
+        refused: Vec::new(alloc),
+        packets: 0,
+        incomplete: 0,
+    })
 }
 
 // The event names of a trace.

@@ -14,7 +14,7 @@ use Rattle.kernel_layout.specs.Sought.{all_sought, known_of, sought_of, text_of}
 -- ---- a name counts as at most one
 
 -- each that is looked for counts as itself
-itself : (s : Sought) → sought_of (text_of s) ≡ Some s
+pub itself : (s : Sought) → sought_of (text_of s) ≡ Some s
 unfolding sought_of
 itself sought.Tid = refl
 itself sought.Irq = refl
@@ -65,8 +65,26 @@ counts : (name : Text) (s : Sought) → sought_of name ≡ Some s → same_name 
 unfolding sought_of
 counts name s e = is_found name all_sought s e
 
-counted : (name : Text) (s : Sought) → same_name (text_of s) name ≡ true → sought_of name ≡ Some s
+pub counted : (name : Text) (s : Sought) → same_name (text_of s) name ≡ true → sought_of name ≡ Some s
 counted name s e = same_bare name (text_of s) (sym ((bytes_decides (bare (text_of s)) (bare name)).0 e)) ∙ itself s
+
+-- names that count as one
+pub as_counted : (name : Text) (k s : Sought) → sought_of name ≡ Some k → same_name (text_of s) (text_of k) ≡ same_name (text_of s) name
+as_counted name k s e = ap (λ x. is_text (bare (text_of s)) x) ((bytes_decides (bare (text_of k)) (bare name)).0 (counts name k e))
+
+-- a name that counts as none
+pub none_counted : (name : Text) (s : Sought) → sought_of name ≡ None → same_name (text_of s) name ≡ false
+none_counted name s e = false_from_ne_true (same_name (text_of s) name) (λ is. let other : sought_of name ≡ Some s = counted name s is in absurd (cc))
+
+-- one that is looked for, of which it is known whether it is another one
+pub one_counted : (k s : Sought) (b : Bool) → (b ≡ true → k ≡ s) → (b ≡ false → k ≡ s → ⊥) → b ≡ same_name (text_of s) (text_of k)
+one_counted k s true if_true if_false = sym (subst (λ x. same_name (text_of s) (text_of x) ≡ true) (sym (if_true refl)) (counts (text_of s) s (itself s)))
+one_counted k s false if_true if_false =
+    sym (false_from_ne_true (same_name (text_of s) (text_of k)) (λ e.
+    let one : sought_of (text_of k) ≡ Some k = itself k in
+    let other : sought_of (text_of k) ≡ Some s = counted (text_of k) s e in
+    let same : k ≡ s = cc in
+    if_false refl same))
 
 -- ---- what the list tells
 

@@ -1,5 +1,9 @@
+pub mod Bytes
 pub mod Names
 pub mod AlikeKinds
 pub mod PassedOver
 pub mod KnownNames
 pub mod FirstChosen
+pub mod PlanSteps
+pub mod PlannedReads
+pub mod PlannedNames

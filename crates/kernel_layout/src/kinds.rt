@@ -1,13 +1,13 @@
 //! The kinds of events, by their names and fields.
 ghost use Rattle.std.specs.Prelude.{◌≡◌};
-ghost use Rattle.kernel_layout.specs.Kinds.{event_of, fork, kind_of, migrate, name_of, other_event_of, process, disk_request, switch, wakeup_fields};
-ghost use Rattle.kernel_layout.specs.Sought.{known_of};
+ghost use Rattle.kernel_layout.specs.Kinds.{event_of, fork, kind_of, migrate, name_of, or_other, other_event_of, process, disk_request, switch, wakeup_fields};
 ghost use Rattle.kernel_layout.specs.Tracepoints.{layout_of};
 
+use crate::fields::{Fields, Segments};
 use crate::layout::Layout;
-use crate::needed::{Fields, comm, of_32, of_64, priority, small, state};
-use crate::segments::segment;
+use crate::needed::{of_32, of_64, priority, small, state};
 use crate::sought::Sought;
+use crate::whole::WholeFields;
 use ctf_fields::RawEvent;
 use trace_types::{EventKind, KernelEvent, Request, Woken};
 use type_table::TraceMeta;
@@ -19,19 +19,26 @@ pub fn kind_of(meta: &TraceMeta, layout: &Layout, raw: &RawEvent) -> (KernelEven
     ensures { result ≡ kind_of meta.now raw.now }
 {
     let name = name_of(meta, raw.event);
-    let fields = Fields {
+    let fields = WholeFields {
         table: meta.table(),
         known: layout.known(),
         root: &raw.fields,
     };
-    match event_of(layout.of(name), name, fields) {
+    or_other(name, event_of(layout.of(name), name, fields))
+}
+
+/// The event, or another one that lacks a field.
+pub fn or_other(name: u32, event: Option<KernelEvent>) -> (KernelEvent, bool)
+    ensures { result ≡ or_other name event }
+{
+    match event {
         Some(kind) => (kind, false),
         None => (KernelEvent::Other { name }, true),
     }
 }
 
-// The number of an event's name.
-fn name_of(meta: &TraceMeta, index: u32) -> u32
+/// The number of an event's name.
+pub fn name_of(meta: &TraceMeta, index: u32) -> u32
     ensures { result ≡ name_of meta.now index }
 {
     match meta.event(index) {
@@ -40,10 +47,10 @@ fn name_of(meta: &TraceMeta, index: u32) -> u32
     }
 }
 
-// The event of a kind, where all fields are there that it needs.
-fn event_of(kind: EventKind, name: u32, fields: Fields<'_>) -> Option<KernelEvent>
-    requires { fields.known.now ≡ known_of fields.table.now.names }
-    ensures { result ≡ event_of kind name fields.entry.table.now fields.entry.root.now }
+/// The event of a kind, where all fields are there that it needs.
+pub fn event_of<F: Segments>(kind: EventKind, name: u32, fields: F) -> Option<KernelEvent>
+    requires { F.can_tell fields }
+    ensures { result ≡ event_of kind name (F.table fields) (F.root fields) }
 {
     match kind {
         EventKind::Switch => switch(fields),
@@ -58,9 +65,9 @@ fn event_of(kind: EventKind, name: u32, fields: Fields<'_>) -> Option<KernelEven
 }
 
 // The event of a kind that has one number, or a call, a segment or a request.
-fn other_event_of(kind: EventKind, name: u32, fields: Fields<'_>) -> Option<KernelEvent>
-    requires { fields.known.now ≡ known_of fields.table.now.names }
-    ensures { result ≡ other_event_of kind name fields.entry.table.now fields.entry.root.now }
+fn other_event_of<F: Segments>(kind: EventKind, name: u32, fields: F) -> Option<KernelEvent>
+    requires { F.can_tell fields }
+    ensures { result ≡ other_event_of kind name (F.table fields) (F.root fields) }
 {
     Some(match kind {
         EventKind::Exit => KernelEvent::Exit {
@@ -84,10 +91,10 @@ fn other_event_of(kind: EventKind, name: u32, fields: Fields<'_>) -> Option<Kern
         EventKind::CallIn => KernelEvent::CallIn { name },
         EventKind::CallOut => KernelEvent::CallOut { name },
         EventKind::Send => KernelEvent::Send {
-            key: segment(fields)?,
+            key: fields.segment()?,
         },
         EventKind::Receive => KernelEvent::Receive {
-            key: segment(fields)?,
+            key: fields.segment()?,
         },
         EventKind::DiskIssue => disk_request(fields)?.issue(),
         EventKind::DiskDone => disk_request(fields)?.done(),
@@ -95,17 +102,17 @@ fn other_event_of(kind: EventKind, name: u32, fields: Fields<'_>) -> Option<Kern
     })
 }
 
-fn switch(fields: Fields<'_>) -> Option<KernelEvent>
-    requires { fields.known.now ≡ known_of fields.table.now.names }
-    ensures { result ≡ switch fields.entry.table.now fields.entry.root.now }
+fn switch<F: Fields>(fields: F) -> Option<KernelEvent>
+    requires { F.can_tell fields }
+    ensures { result ≡ switch (F.table fields) (F.root fields) }
 {
     let prev_state = state(fields, Sought::PrevState)?;
     let prev_tid = small(fields, Sought::PrevTid)?;
     let next_tid = small(fields, Sought::NextTid)?;
     let prev_prio = priority(fields, Sought::PrevPrio)?;
     let next_prio = priority(fields, Sought::NextPrio)?;
-    let prev_comm = comm(fields, Sought::PrevComm)?;
-    let next_comm = comm(fields, Sought::NextComm)?;
+    let prev_comm = fields.comm(Sought::PrevComm)?;
+    let next_comm = fields.comm(Sought::NextComm)?;
     Some(KernelEvent::Switch {
         prev_state,
         prev_tid,
@@ -117,12 +124,12 @@ fn switch(fields: Fields<'_>) -> Option<KernelEvent>
     })
 }
 
-fn wakeup_fields(fields: Fields<'_>) -> Option<Woken>
-    requires { fields.known.now ≡ known_of fields.table.now.names }
-    ensures { result ≡ wakeup_fields fields.entry.table.now fields.entry.root.now }
+fn wakeup_fields<F: Fields>(fields: F) -> Option<Woken>
+    requires { F.can_tell fields }
+    ensures { result ≡ wakeup_fields (F.table fields) (F.root fields) }
 {
     let tid = small(fields, Sought::Tid)?;
-    let comm = comm(fields, Sought::Comm)?;
+    let comm = fields.comm(Sought::Comm)?;
     let prio = priority(fields, Sought::Prio)?;
     let target_cpu = small(fields, Sought::TargetCpu)?;
     Some(Woken {
@@ -133,13 +140,13 @@ fn wakeup_fields(fields: Fields<'_>) -> Option<Woken>
     })
 }
 
-fn fork(fields: Fields<'_>) -> Option<KernelEvent>
-    requires { fields.known.now ≡ known_of fields.table.now.names }
-    ensures { result ≡ fork fields.entry.table.now fields.entry.root.now }
+fn fork<F: Fields>(fields: F) -> Option<KernelEvent>
+    requires { F.can_tell fields }
+    ensures { result ≡ fork (F.table fields) (F.root fields) }
 {
     let parent_tid = small(fields, Sought::ParentTid)?;
     let child_tid = small(fields, Sought::ChildTid)?;
-    let child_comm = comm(fields, Sought::ChildComm)?;
+    let child_comm = fields.comm(Sought::ChildComm)?;
     Some(KernelEvent::Fork {
         parent_tid,
         child_tid,
@@ -147,22 +154,22 @@ fn fork(fields: Fields<'_>) -> Option<KernelEvent>
     })
 }
 
-fn migrate(fields: Fields<'_>) -> Option<KernelEvent>
-    requires { fields.known.now ≡ known_of fields.table.now.names }
-    ensures { result ≡ migrate fields.entry.table.now fields.entry.root.now }
+fn migrate<F: Fields>(fields: F) -> Option<KernelEvent>
+    requires { F.can_tell fields }
+    ensures { result ≡ migrate (F.table fields) (F.root fields) }
 {
     let tid = small(fields, Sought::Tid)?;
     let dest_cpu = small(fields, Sought::DestCpu)?;
     Some(KernelEvent::Migrate { tid, dest_cpu })
 }
 
-fn process(fields: Fields<'_>) -> Option<KernelEvent>
-    requires { fields.known.now ≡ known_of fields.table.now.names }
-    ensures { result ≡ process fields.entry.table.now fields.entry.root.now }
+fn process<F: Fields>(fields: F) -> Option<KernelEvent>
+    requires { F.can_tell fields }
+    ensures { result ≡ process (F.table fields) (F.root fields) }
 {
     let tid = small(fields, Sought::Tid)?;
     let ppid = small(fields, Sought::Ppid)?;
-    let name = comm(fields, Sought::Name)?;
+    let name = fields.comm(Sought::Name)?;
     let status = small(fields, Sought::Status)?;
     Some(KernelEvent::Process {
         tid,
@@ -172,9 +179,9 @@ fn process(fields: Fields<'_>) -> Option<KernelEvent>
     })
 }
 
-fn disk_request(fields: Fields<'_>) -> Option<Request>
-    requires { fields.known.now ≡ known_of fields.table.now.names }
-    ensures { result ≡ disk_request fields.entry.table.now fields.entry.root.now }
+fn disk_request<F: Fields>(fields: F) -> Option<Request>
+    requires { F.can_tell fields }
+    ensures { result ≡ disk_request (F.table fields) (F.root fields) }
 {
     let sector = of_64(fields, Sought::Sector)?;
     let dev = of_32(fields, Sought::Dev)?;

@@ -1,11 +1,14 @@
 //! The kinds of a trace's event names, and what is known beforehand of how its events are read.
-ghost use Rattle.std.specs.Prelude.{◌≡◌, true, IfOk, map};
+ghost use Rattle.std.specs.Prelude.{◌≡◌, true, IfOk, IfSome, map};
+ghost use Rattle.std.specs.Option.{option_copied};
 ghost use Rattle.read_plan.specs.FixedSizes.{AreSkips};
 ghost use Rattle.read_plan.specs.Lone.{IsLone, headers_are_lone};
+ghost use Rattle.kernel_layout.specs.Plans.{IsPlan, plan_at, plan_of};
 ghost use Rattle.kernel_layout.specs.Skips.{kind_at, needs_fields, skip_of};
-ghost use Rattle.kernel_layout.specs.Tracepoints.{kinds_of, layout_of, skips_of};
+ghost use Rattle.kernel_layout.specs.Tracepoints.{kinds_of, layout_of, plans_of, skips_of};
 
 use crate::known::known_of;
+use crate::plan::{EventPlan, plan_of};
 use crate::sought::Sought;
 use crate::tracepoint::kind_named;
 use read_plan::{FixedSize, fixed_sizes, headers_are_lone, size_at};
@@ -15,14 +18,15 @@ use trace_types::{EventKind, OutOfMemory};
 use type_table::{EventParts, TraceMeta};
 
 /// The kind of each event name of a trace, how many bits of each event may be passed over, whether any type looks into the
-/// headers of events, and which names of fields are those that kinds are told by, decided once. Contracts see the lists and
-/// that answer.
+/// headers of events, which names of fields are those that kinds are told by, and by which plans events are read, decided
+/// once. Contracts see the lists and that answer.
 #[derive(Debug, Drop)]
 pub struct Layout {
     kinds: Vec<EventKind>,
     skips: Vec<Option<u64>>,
     lone: bool,
     known: Vec<Option<Sought>>,
+    plans: Vec<Option<EventPlan>>,
 }
 
 impl Model for Layout {
@@ -30,7 +34,7 @@ impl Model for Layout {
 
     ghost Value = { LayoutModel };
 
-    ghost view = { λ l. record { kinds = l.kinds.items; skips = l.skips.items; lone = l.lone; known = l.known.items } };
+    ghost view = { λ l. record { kinds = l.kinds.items; skips = l.skips.items; lone = l.lone; known = l.known.items; plans = l.plans.items } };
 }
 
 impl Layout {
@@ -40,7 +44,8 @@ impl Layout {
         ensures { IfOk result (λ layout. layout ≡ layout_of meta.now) }
     {
         let kinds = kinds_of(alloc, meta)?;
-        let skips = skips_of(alloc, meta, kinds.as_slice())?;
+        let plans = plans_by(alloc, meta, kinds.as_slice())?;
+        let skips = skips_of(alloc, meta, kinds.as_slice(), plans.as_slice())?;
         let lone = headers_are_lone(meta.table())?;
         let known = known_of(alloc, meta.table())?;
         Ok(Layout {
@@ -48,11 +53,12 @@ impl Layout {
             skips,
             lone,
             known,
+            plans,
         })
     }
 
     /// For each event that the trace declares how many bits its fields take, where they may be passed over: its kind
-    /// needs none of them, and they take as many wherever they begin at a whole byte.
+    /// needs none of them, or they are read by a plan, and they take as many wherever they begin at a whole byte.
     #[tactic(auto, using(crate::proofs::PassedOver::are_skips))]
     pub fn skips(&self, meta: &TraceMeta) -> &[Option<u64>]
         requires { self.now ≡ layout_of meta.now }
@@ -81,6 +87,16 @@ impl Layout {
         self.known.as_slice()
     }
 
+    /// The plan by which the fields of an event are read, if it has one.
+    pub(crate) fn plan(&self, meta: &TraceMeta, event: u32) -> Option<&EventPlan>
+        requires { self.now ≡ layout_of meta.now }
+        ensures is { option_copied result ≡ plan_at (plans_of meta.now) event }
+        ensures plan { IfSome result (λ plan. IsPlan meta.now.table plan.now) }
+    {
+        meta.is_sound();
+        plan_at(self.plans.as_slice(), event)
+    }
+
     /// The kind of the name of this number.
     pub fn of(&self, name: u32) -> EventKind
         ensures { result ≡ kind_at self.now.kinds name }
@@ -103,7 +119,8 @@ fn kinds_of(alloc: Global, meta: &TraceMeta) -> Result<Vec<EventKind>, OutOfMemo
     Ok(kinds)
 }
 
-fn kind_at(kinds: &[EventKind], name: u32) -> EventKind
+/// The kind of the name of this number.
+pub fn kind_at(kinds: &[EventKind], name: u32) -> EventKind
     ensures { result ≡ kind_at kinds.now name }
 {
     match kinds.get(name as usize) {
@@ -112,17 +129,37 @@ fn kind_at(kinds: &[EventKind], name: u32) -> EventKind
     }
 }
 
+// The plan of each event.
+fn plans_by(
+    alloc: Global,
+    meta: &TraceMeta,
+    kinds: &[EventKind],
+) -> Result<Vec<Option<EventPlan>>, OutOfMemory>
+    ensures { IfOk result (λ plans. plans.items ≡ map (λ e. plan_of meta.now.table kinds.now e.1) meta.now.declared.events) }
+{
+    meta.is_sound();
+    let mut plans = Vec::new(alloc);
+    let mut number = 0u32;
+    while let Some((_, parts)) = meta.event(number) {
+        plans.push(plan_of(alloc, meta.table(), kinds, parts)?)?;
+        number += 1;
+    }
+    Ok(plans)
+}
+
 // How many bits of each event may be passed over.
 fn skips_of(
     alloc: Global,
     meta: &TraceMeta,
     kinds: &[EventKind],
+    plans: &[Option<EventPlan>],
 ) -> Result<Vec<Option<u64>>, OutOfMemory>
-    requires { kinds.now ≡ kinds_of meta.now }
+    requires kinds { kinds.now ≡ kinds_of meta.now }
+    requires plans { plans.now ≡ plans_of meta.now }
     ensures { IfOk result (λ skips. skips.items ≡ skips_of meta.now) }
 {
     let sizes = fixed_sizes(alloc, meta.table())?;
-    skips_by(alloc, meta, kinds, sizes.as_slice())
+    skips_by(alloc, meta, kinds, sizes.as_slice(), plans)
 }
 
 fn skips_by(
@@ -130,24 +167,38 @@ fn skips_by(
     meta: &TraceMeta,
     kinds: &[EventKind],
     sizes: &[Option<FixedSize>],
+    plans: &[Option<EventPlan>],
 ) -> Result<Vec<Option<u64>>, OutOfMemory>
-    ensures { IfOk result (λ skips. skips.items ≡ map (λ e. skip_of kinds.now sizes.now e.1) meta.now.declared.events) }
+    requires { plans.now ≡ map (λ e. plan_of meta.now.table kinds.now e.1) meta.now.declared.events }
+    ensures { IfOk result (λ skips. skips.items ≡ map (λ e. skip_of kinds.now sizes.now (plan_of meta.now.table kinds.now e.1) e.1) meta.now.declared.events) }
 {
     meta.is_sound();
     let mut skips = Vec::new(alloc);
     let mut number = 0u32;
     while let Some((_, parts)) = meta.event(number) {
-        skips.push(skip_of(kinds, sizes, parts))?;
+        skips.push(skip_of(kinds, sizes, plan_at(plans, number), parts))?;
         number += 1;
     }
     Ok(skips)
 }
 
-// How many bits of an event may be passed over.
-fn skip_of(kinds: &[EventKind], sizes: &[Option<FixedSize>], parts: EventParts) -> Option<u64>
-    ensures { result ≡ skip_of kinds.now sizes.now parts }
+// The plan of the event of this number.
+fn plan_at(plans: &[Option<EventPlan>], event: u32) -> Option<&EventPlan>
+    ensures { option_copied result ≡ plan_at plans.now event }
 {
-    if needs_fields(kind_at(kinds, parts.name)) {
+    plans.get(event as usize)?.as_ref()
+}
+
+// How many bits of an event may be passed over.
+fn skip_of(
+    kinds: &[EventKind],
+    sizes: &[Option<FixedSize>],
+    plan: Option<&EventPlan>,
+    parts: EventParts,
+) -> Option<u64>
+    ensures { result ≡ skip_of kinds.now sizes.now (option_copied plan.entry) parts }
+{
+    if needs_fields(kind_at(kinds, parts.name)) && plan.is_none() {
         return None;
     }
     match parts.fields {
@@ -156,8 +207,8 @@ fn skip_of(kinds: &[EventKind], sizes: &[Option<FixedSize>], parts: EventParts) 
     }
 }
 
-// Whether an event of this kind is told by its fields.
-fn needs_fields(kind: EventKind) -> bool
+/// Whether an event of this kind is told by its fields.
+pub fn needs_fields(kind: EventKind) -> bool
     ensures { result ≡ needs_fields kind }
 {
     !matches!(

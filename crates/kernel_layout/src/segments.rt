@@ -8,14 +8,15 @@ ghost use Rattle.kernel_layout.specs.Needed.{address, address_in, followed, join
 ghost use Rattle.kernel_layout.specs.Sought.{known_of, text_of};
 
 use crate::known::first_known;
-use crate::needed::{Fields, of_16, of_32};
+use crate::needed::{of_16, of_32};
 use crate::sought::Sought;
+use crate::whole::WholeFields;
 use ctf_fields::{Field, below_64, integer_type};
 use trace_types::SegKey;
 use type_table::{Integer, Table};
 
 /// What tells a segment from others.
-pub fn segment(fields: Fields<'_>) -> Option<SegKey>
+pub fn segment(fields: WholeFields<'_>) -> Option<SegKey>
     requires { fields.known.now ≡ known_of fields.table.now.names }
     ensures { result ≡ segment fields.entry.table.now fields.entry.root.now }
 {
@@ -37,7 +38,7 @@ pub fn segment(fields: Fields<'_>) -> Option<SegKey>
 }
 
 // The ports that a segment goes from and to.
-fn ports(fields: Fields<'_>) -> Option<(u16, u16)>
+fn ports(fields: WholeFields<'_>) -> Option<(u16, u16)>
     requires { fields.known.now ≡ known_of fields.table.now.names }
     ensures { result ≡ ports fields.entry.table.now fields.entry.root.now }
 {
@@ -48,7 +49,7 @@ fn ports(fields: Fields<'_>) -> Option<(u16, u16)>
 }
 
 // An address of at most 128 bits.
-fn address(fields: Fields<'_>, name: Sought) -> Option<u128>
+fn address(fields: WholeFields<'_>, name: Sought) -> Option<u128>
     requires { fields.known.now ≡ known_of fields.table.now.names }
     ensures { result ≡ address fields.entry.table.now fields.entry.root.now (text_of name) }
 {

@@ -1,21 +1,25 @@
 -- Fields that are passed over, and events that are read without them.
-use Rattle.std.proofs.Common.{◌≡◌, ◌∙◌, ℕ, ◌+◌, ◌%◌, ◌≤◌, ◌&&◌, false, true, is_none, nat_eq, if◌then◌else◌, List, Option, None, Some, Result, Ok, Err, refl, sym, ap, arith}
+use Rattle.std.proofs.Common.{◌≡◌, ◌∙◌, ℕ, ◌+◌, ◌%◌, ◌^◌, ◌≤◌, ◌&&◌, false, true, is_none, nat_eq, if◌then◌else◌, List, Option, None, Some, IfSome, Result, Ok, Err, refl, sym, ap, arith}
 use Rattle.ctf_fields.specs.declared.error.FieldError.TheVariants.{ShortContent, NoVariant, TooLong, OutOfMemory}
 use Rattle.ctf_fields.specs.declared.field.Field.{Field}
 use Rattle.ctf_fields.specs.Fields.{Scopes}
 use Rattle.read_plan.specs.FixedSizes.{FieldsTake, Passes}
-use Rattle.ctf_fields.specs.Reading.{Reads, Got, Fails, scope_read}
+use Rattle.read_plan.specs.Placed.{AreKeptOrAt, IsReadFrom}
+use Rattle.ctf_fields.specs.Reading.{Reads, Got, Fails, as_read, scope_read}
+use Rattle.ctf_fields.specs.declared.raw.RawEvent.{RawEvent}
 use Rattle.read_plan.proofs.Passing.{as_passes}
 use Rattle.type_table.specs.PerScope.{with_scope}
+use Rattle.type_table.specs.Table.{Table}
 use Rattle.type_table.specs.declared.meta.ScopeName.TheVariants.{EventContext, EventHeader, StreamContext}
 use Rattle.type_table.specs.declared.declared.EventParts.{EventParts}
 use Rattle.packet_decoder.specs.declared.events.Cursor.{Cursor}
 use Rattle.packet_decoder.specs.declared.events.EventHead.{EventHead}
+use Rattle.packet_decoder.specs.declared.events.ReadEvent.{ReadEvent}
 use Rattle.packet_decoder.specs.Events.{PacketModel, as_result, event, event_body, event_fields, event_head, event_timed, field_or_none, from_of, scope_at}
 use Rattle.packet_decoder.specs.declared.failure.Failure.{Failure}
 use Rattle.packet_decoder.specs.declared.failure.Failure.TheVariants.{Refused}
 use Rattle.packet_decoder.specs.declared.failure.Failure.TheVariants.{OutOfMemory as NoMemory}
-use Rattle.packet_decoder.specs.EventReaders.{EndsAs, EventPassedAs, EventReadAs, FieldsReadAs, HeadToldAs, IsHeadReadAs, is_bare}
+use Rattle.packet_decoder.specs.EventReaders.{EndsAs, EventPassedAs, EventReadAs, FieldsReadAs, HeadToldAs, IsHeadReadAs, IsReadAs, is_bare}
 use Rattle.packet_decoder.specs.PacketHeads.{and_then, read_scope}
 use Rattle.packet_decoder.proofs.PlannedHeads.{body_same}
 use Rattle.packet_decoder.specs.Times.{in_range, rate_of, time_after, time_of}
@@ -35,6 +39,27 @@ passed (Fails ShortContent) at bits end next h is fits = absurd (omega (arith, h
 passed (Fails NoVariant) at bits end next h is fits = absurd h
 passed (Fails TooLong) at bits end next h is fits = absurd h
 passed (Fails OutOfMemory) at bits end next h is fits = absurd h
+
+-- what is read of the fields of an event is what stands from their first bit on
+pub read_from : (w : PacketModel) (s : Scopes) (ty : Option ℕ) (at next : ℕ) (whole : Option Field) → scope_at w s ty at ≡ Ok (whole, next) → IsReadFrom w.meta.table w.bytes w.end ty at (field_or_none whole)
+read_from w s None at next whole is =
+    let both : Path (Option Field × ℕ) (whole, next) (None, at) = cc in
+    ap (λ p. field_or_none p.0) both
+read_from w s (Some ty) at next whole is = by (scope_read (from_of w s) ty at) refl is
+  where
+    by : (x : Reads Field) → scope_read (from_of w s) ty at ≡ x → as_result (as_read Some x) ≡ Ok (whole, next) → IsReadFrom w.meta.table w.bytes w.end (Some ty) at (field_or_none whole)
+    by (Got f bit) there is =
+        let both : Path (Option Field × ℕ) (Some f, bit) (whole, next) = cc in
+        (s, bit, there ∙ ap (λ p. Got (field_or_none p.0) bit) both)
+    by (Fails e) there is = absurd (cc)
+
+-- the first bit of fields that were passed over is small
+at_within : (t : Table) (bytes : List ℕ) (end : ℕ) (ty skip : Option ℕ) (whole kept : Field) (from : Option ℕ) → AreKeptOrAt t bytes end ty skip whole kept from → IfSome from (λ at. at ≤ 2 ^ 63)
+at_within t bytes end ty skip whole kept None fields = tt
+at_within t bytes end ty skip whole kept (Some at) fields = fields.1
+
+pub begins_within : (m : TraceMetaModel) (bytes : List ℕ) (end : ℕ) (skips : List (Option ℕ)) (whole : RawEvent) (read : ReadEvent) → IsReadAs m bytes end skips whole read → IfSome read.fields_at (λ at. at ≤ 2 ^ 63)
+begins_within m bytes end skips whole read is = at_within m.table bytes end is.fields.parts.fields _ whole.fields read.raw.fields read.fields_at is.fields.fields
 
 -- an event of whose parts each is read, its header with its fields or without
 pub event_read : (w : PacketModel) (s : Scopes) (c : Cursor) (first head : EventHead) (whole : Option Field) (at clock time : ℕ) → IsHeadReadAs w.meta.table first head → event_head w s c.at ≡ Ok first
@@ -74,10 +99,10 @@ time_refused w s c first head whole at e read heads bodies moved times =
     ∙ ap (λ x. and_then x (λ t. Ok (record { time = t.1; cpu = w.cpu; event = first.event; fields = field_or_none whole }, record { clock = t.0; at = at }))) (ap (λ t. time_after w.meta t c.clock) (sym read.timestamp) ∙ times)
 
 -- what stands after a header can't be read, and so the event can't be
-pub by_fields : (skips : List (Option ℕ)) (skip : Option ℕ) (w : PacketModel) (s : Scopes) (c : Cursor) (first head : EventHead) (e : Failure) → IsHeadReadAs w.meta.table first head → event_head w s c.at ≡ Ok first
-    → FieldsReadAs skip (event_body w (with_scope EventHeader head.header s) head.parts head.at) (Err e) → EventReadAs skips (event w s c) (Err e)
-by_fields skips skip w s c first head (Refused cause) read heads bodies = body_refused w s c first head cause read heads bodies
-by_fields skips skip w s c first head NoMemory read heads bodies = tt
+pub by_fields : (skips : List (Option ℕ)) (ty skip : Option ℕ) (w : PacketModel) (s : Scopes) (c : Cursor) (first head : EventHead) (e : Failure) → IsHeadReadAs w.meta.table first head → event_head w s c.at ≡ Ok first
+    → FieldsReadAs w ty skip (event_body w (with_scope EventHeader head.header s) head.parts head.at) (Err e) → EventReadAs w skips (event w s c) (Err e)
+by_fields skips ty skip w s c first head (Refused cause) read heads bodies = body_refused w s c first head cause read heads bodies
+by_fields skips ty skip w s c first head NoMemory read heads bodies = tt
 
 -- where nothing is declared to stand after a header, nothing does
 nothing_behind : (w : PacketModel) (s : Scopes) (parts : EventParts) (at : ℕ) → w.parts.event_context ≡ None → parts.context ≡ None → parts.fields ≡ None → event_body w s parts at ≡ Ok (None, at)
@@ -99,9 +124,9 @@ bare_ends w s parts at bare =
     (None, nothing_behind w s parts at none.0 none.1 none.2)
 
 -- the end of what stands after a header, by how it is read
-pub ends_as : (skip : Option ℕ) (x : Result (Option Field × ℕ) Cause) (e : Failure) → FieldsReadAs skip x (Err e) → EndsAs x (Err e)
-ends_as skip x (Refused cause) h = h
-ends_as skip x NoMemory h = tt
+pub ends_as : (w : PacketModel) (ty skip : Option ℕ) (x : Result (Option Field × ℕ) Cause) (e : Failure) → FieldsReadAs w ty skip x (Err e) → EndsAs x (Err e)
+ends_as w ty skip x (Refused cause) h = h
+ends_as w ty skip x NoMemory h = tt
 
 -- what stands after a header can't be read, and so the event can't be passed over
 pub by_end : (w : PacketModel) (s : Scopes) (c : Cursor) (first head : EventHead) (e : Failure) → IsHeadReadAs w.meta.table first head → event_head w s c.at ≡ Ok first

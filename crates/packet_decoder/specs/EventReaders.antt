@@ -5,18 +5,20 @@ use Rattle.ctf_fields.specs.declared.raw.RawEvent.{RawEvent}
 use Rattle.ctf_fields.specs.declared.field.Field.{Field}
 use Rattle.ctf_fields.specs.Fields.{Scopes}
 use Rattle.type_table.specs.Table.{Table}
-use Rattle.read_plan.specs.FixedSizes.{skip_at}
 use Rattle.read_plan.specs.Headers.{IsPlanFor, IsReadablePlan}
 use Rattle.read_plan.specs.Headers.{header_plan as plan_of}
 use Rattle.read_plan.specs.Lone.{IsLone}
+use Rattle.read_plan.specs.Placed.{AreFieldsOf, AreKeptOrAt}
 use Rattle.read_plan.specs.Singles.{IsReadableSingle, single_number}
 use Rattle.read_plan.specs.declared.header.HeaderPlan.{HeaderPlan}
 use Rattle.read_plan.specs.declared.single.SingleNumber.{SingleNumber}
-use Rattle.packet_decoder.specs.Events.{PacketModel, event_by, events_from}
+use Rattle.packet_decoder.specs.Events.{PacketModel, event_by, events_from, field_or_none}
 use Rattle.packet_decoder.specs.PacketHeads.{and_then}
 use Rattle.packet_decoder.specs.declared.events.Cursor.{Cursor}
 use Rattle.packet_decoder.specs.declared.events.EventHead.{EventHead}
+use Rattle.packet_decoder.specs.declared.events.FieldsRead.{FieldsRead}
 use Rattle.packet_decoder.specs.declared.events.LastEvent.{LastEvent}
+use Rattle.packet_decoder.specs.declared.events.ReadEvent.{ReadEvent}
 use Rattle.packet_decoder.specs.declared.events.ToldHead.{ToldHead}
 use Rattle.packet_decoder.specs.declared.passing.Seen.{Seen}
 use Rattle.packet_decoder.specs.Times.{time_after}
@@ -52,24 +54,24 @@ refusal (Err cause) = Some cause
 
 -- ---- events whose fields may be passed over
 
--- a call answers so much of an event's fields: all of them where nothing is to be passed over, and the bit after them; or it refuses as they are refused
-abbrev pub FieldsReadAs : Option ℕ → Result (Option Field × ℕ) Cause → Result (Option Field × ℕ) Failure → Type 0
-FieldsReadAs skip answer (Ok r) = (whole : Option Field) × (answer ≡ Ok (whole, r.1)) × (skip ≡ None → r.0 ≡ whole)
-FieldsReadAs skip answer (Err (failure.Refused cause)) = answer ≡ Err cause
-FieldsReadAs skip answer (Err failure.OutOfMemory) = Unit {0}
+-- a call answers an event's fields, which are of this type and were kept, or passed over where that is allowed, and the bit after them; or it refuses as they are refused
+abbrev pub FieldsReadAs : PacketModel → Option ℕ → Option ℕ → Result (Option Field × ℕ) Cause → Result FieldsRead Failure → Type 0
+FieldsReadAs w ty skip answer (Ok r) = (whole : Option Field) × (answer ≡ Ok (whole, r.end)) × AreKeptOrAt w.meta.table w.bytes w.end ty skip (field_or_none whole) (field_or_none r.fields) r.from
+FieldsReadAs w ty skip answer (Err (failure.Refused cause)) = answer ≡ Err cause
+FieldsReadAs w ty skip answer (Err failure.OutOfMemory) = Unit {0}
 
--- an event, and how it was read, which may be without its fields where these may be passed over
-pub record IsReadAs (skips : List (Option ℕ)) (whole raw : RawEvent) : Type 0 where
-  pub time : raw.time ≡ whole.time
-  pub cpu : raw.cpu ≡ whole.cpu
-  pub event : raw.event ≡ whole.event
-  pub fields : skip_at skips raw.event ≡ None → raw.fields ≡ whole.fields
+-- an event, and how it was read from these bits: with its fields, or with the bit at which they begin where they may be passed over
+pub record IsReadAs (m : TraceMetaModel) (bytes : List ℕ) (end : ℕ) (skips : List (Option ℕ)) (whole : RawEvent) (read : ReadEvent) : Type 0 where
+  pub time : read.raw.time ≡ whole.time
+  pub cpu : read.raw.cpu ≡ whole.cpu
+  pub event : read.raw.event ≡ whole.event
+  pub fields : AreFieldsOf m bytes end skips read.raw.event whole.fields read.raw.fields read.fields_at
 
--- a call reads an event so, or refuses as it is refused
-abbrev pub EventReadAs : List (Option ℕ) → Result (RawEvent × Cursor) Cause → Result (RawEvent × Cursor) Failure → Type 0
-EventReadAs skips answer (Ok r) = (whole : RawEvent) × (answer ≡ Ok (whole, r.1)) × IsReadAs skips whole r.0
-EventReadAs skips answer (Err (failure.Refused cause)) = answer ≡ Err cause
-EventReadAs skips answer (Err failure.OutOfMemory) = Unit {0}
+-- a call reads an event of a packet so, or refuses as it is refused
+abbrev pub EventReadAs : PacketModel → List (Option ℕ) → Result (RawEvent × Cursor) Cause → Result (ReadEvent × Cursor) Failure → Type 0
+EventReadAs w skips answer (Ok r) = (whole : RawEvent) × (answer ≡ Ok (whole, r.1)) × IsReadAs w.meta w.bytes w.end skips whole r.0
+EventReadAs w skips answer (Err (failure.Refused cause)) = answer ≡ Err cause
+EventReadAs w skips answer (Err failure.OutOfMemory) = Unit {0}
 
 -- ---- headers whose fields aren't kept
 
@@ -163,5 +165,6 @@ EventPassedAs answer (Err failure.OutOfMemory) = Unit {0}
 abbrev pub repeated_by : SingleNumber → ℕ → LastEvent → ℕ → Option ℕ
 repeated_by s clock last timed = if s.number.is_id && not s.number.is_timestamp && last.is_bare && nat_eq timed clock then Some last.id else None
 
+-- the same of what was found out of the events before, where an event was looked up and a value of the clock is known at which one without a timestamp has a time
 abbrev pub repeated_id : SingleNumber → Seen → ℕ → Option ℕ
 repeated_id s seen clock = option_and_then (λ last. option_and_then (repeated_by s clock last) seen.timed) seen.last

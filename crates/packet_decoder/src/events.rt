@@ -78,6 +78,23 @@ pub struct LastEvent {
     pub is_bare: bool,
 }
 
+/// An event as it was read. Where its fields were passed over it has none of them, and `fields_at` is the first bit of them,
+/// a whole byte.
+#[derive(Debug, Drop)]
+pub struct ReadEvent {
+    pub raw: RawEvent,
+    pub fields_at: Option<u64>,
+}
+
+/// An event's fields, where there are any that were kept, the first bit after them, and their own first bit where they were
+/// passed over.
+#[derive(Debug, Drop)]
+pub struct FieldsRead {
+    pub fields: Option<Field>,
+    pub end: u64,
+    pub from: Option<u64>,
+}
+
 // The field of a scope, and the bit after it.
 fn scope_at(
     alloc: Global,
@@ -284,18 +301,23 @@ fn fields_at(
     ty: Option<u32>,
     skip: Option<u64>,
     at: u64,
-) -> Result<(Option<Field>, u64), Failure>
+) -> Result<FieldsRead, Failure>
     requires at { at ≤ 2 ^ 63 }
     requires skip { IfSome skip (FieldsTake packet.now.meta.table ty) }
-    ensures answers { FieldsReadAs skip (scope_at packet.now scopes.now ty at) result }
-    ensures forward { IfOk result (λ r. (at ≤ r.1) × (r.1 ≤ 2 ^ 63)) }
+    ensures answers { FieldsReadAs packet.now ty skip (scope_at packet.now scopes.now ty at) result }
+    ensures forward { IfOk result (λ r. (at ≤ r.end) × (r.end ≤ 2 ^ 63)) }
 {
     if let Some(bits) = skip {
         if at % 8 == 0 {
             return pass_over(packet, scopes, ty, bits, at);
         }
     }
-    scope_at(alloc, packet, scopes, scratch, ty, at)
+    let (fields, end) = scope_at(alloc, packet, scopes, scratch, ty, at)?;
+    Ok(FieldsRead {
+        fields,
+        end,
+        from: None,
+    })
 }
 
 // Passes over fields that take so many bits.
@@ -305,15 +327,19 @@ fn pass_over(
     ty: Option<u32>,
     bits: u64,
     at: u64,
-) -> Result<(Option<Field>, u64), Failure>
+) -> Result<FieldsRead, Failure>
     requires at { at ≤ 2 ^ 63 }
     requires whole { at % 8 ≡ 0 }
     requires skip { FieldsTake packet.now.meta.table ty bits }
-    ensures answers { FieldsReadAs (Some bits) (scope_at packet.now scopes.now ty at) result }
-    ensures forward { IfOk result (λ r. (at ≤ r.1) × (r.1 ≤ 2 ^ 63)) }
+    ensures answers { FieldsReadAs packet.now ty (Some bits) (scope_at packet.now scopes.now ty at) result }
+    ensures forward { IfOk result (λ r. (at ≤ r.end) × (r.end ≤ 2 ^ 63)) }
 {
     match skip_fixed(packet.bits.end, at, bits) {
-        Ok(next) => Ok((None, next)),
+        Ok(end) => Ok(FieldsRead {
+            fields: None,
+            end,
+            from: Some(at),
+        }),
         Err(_) => Err(Failure::Refused(Cause::ShortContent)),
     }
 }
@@ -328,11 +354,11 @@ fn event_fields(
     parts: EventParts,
     skip: Option<u64>,
     at: u64,
-) -> Result<(Option<Field>, u64), Failure>
+) -> Result<FieldsRead, Failure>
     requires at { at ≤ 2 ^ 63 }
     requires skip { IfSome skip (FieldsTake packet.now.meta.table parts.fields) }
-    ensures answers { FieldsReadAs skip (event_fields packet.now scopes.old parts at) result }
-    ensures forward { IfOk result (λ r. (at ≤ r.1) × (r.1 ≤ 2 ^ 63)) }
+    ensures answers { FieldsReadAs packet.now parts.fields skip (event_fields packet.now scopes.old parts at) result }
+    ensures forward { IfOk result (λ r. (at ≤ r.end) × (r.end ≤ 2 ^ 63)) }
     ensures stays { OnOk result (cleared scopes.new ≡ cleared scopes.old) }
 {
     let (context, at) = scope_at(alloc, packet, scopes, scratch, parts.context, at)?;
@@ -350,11 +376,11 @@ pub fn event_body(
     parts: EventParts,
     skip: Option<u64>,
     at: u64,
-) -> Result<(Option<Field>, u64), Failure>
+) -> Result<FieldsRead, Failure>
     requires at { at ≤ 2 ^ 63 }
     requires skip { IfSome skip (FieldsTake packet.now.meta.table parts.fields) }
-    ensures answers { FieldsReadAs skip (event_body packet.now scopes.old parts at) result }
-    ensures forward { IfOk result (λ r. (at ≤ r.1) × (r.1 ≤ 2 ^ 63)) }
+    ensures answers { FieldsReadAs packet.now parts.fields skip (event_body packet.now scopes.old parts at) result }
+    ensures forward { IfOk result (λ r. (at ≤ r.end) × (r.end ≤ 2 ^ 63)) }
     ensures stays { OnOk result (cleared scopes.new ≡ cleared scopes.old) }
 {
     let (context, at) = scope_at(
@@ -422,11 +448,11 @@ pub fn read_event(
     header: Option<&HeaderPlan>,
     skips: &[Option<u64>],
     cursor: Cursor,
-) -> Result<(RawEvent, Cursor), Failure>
+) -> Result<(ReadEvent, Cursor), Failure>
     requires at { cursor.at ≤ 2 ^ 63 }
     requires header { PlanFits packet.now.meta.table packet.now.parts.event_header (option_copied header) }
     requires skips { AreSkips packet.now.meta skips.now }
-    ensures answers { EventReadAs skips.now (event packet.now (cleared scopes.old) cursor) result }
+    ensures answers { EventReadAs packet.now skips.now (event packet.now (cleared scopes.old) cursor) result }
     ensures forward { IfOk result (λ r. (cursor.at < r.1.at) × (r.1.at ≤ 2 ^ 63)) }
     ensures stays { OnOk result (cleared scopes.new ≡ cleared scopes.old) }
 {
@@ -434,16 +460,25 @@ pub fn read_event(
     let head = head_at(alloc, packet, scopes, scratch, header, cursor.at)?;
     scopes.event_header = head.header;
     let skip = skip_at(skips, head.event);
-    let (fields, at) = event_body(alloc, packet, scopes, scratch, head.parts, skip, head.at)?;
-    if at == cursor.at {
+    let body = event_body(alloc, packet, scopes, scratch, head.parts, skip, head.at)?;
+    if body.end == cursor.at {
         return Err(Failure::Refused(Cause::NoBits));
     }
     let (clock, time) = time_after(packet.meta, head.timestamp, cursor.clock)?;
-    let event = RawEvent {
-        time,
-        cpu: packet.cpu,
-        event: head.event,
-        fields: field_or_none(alloc, fields),
+    let read = ReadEvent {
+        raw: RawEvent {
+            time,
+            cpu: packet.cpu,
+            event: head.event,
+            fields: field_or_none(alloc, body.fields),
+        },
+        fields_at: body.from,
     };
-    Ok((event, Cursor { clock, at }))
+    Ok((
+        read,
+        Cursor {
+            clock,
+            at: body.end,
+        },
+    ))
 }

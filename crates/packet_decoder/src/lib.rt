@@ -15,6 +15,7 @@ mod values;
 
 pub use cutting::{cut, cut_within};
 pub use decoding::decode;
+pub use events::ReadEvent;
 pub use failure::Failure;
 pub use piece::{Counter, PacketResult, PacketSpan, Piece};
 pub use reader::EventReader;

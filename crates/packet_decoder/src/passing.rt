@@ -12,8 +12,8 @@ ghost use Rattle.packet_decoder.specs.declared.failure.Failure.TheVariants as fa
 ghost use Rattle.trace_types.specs.declared.cause.Cause.{Cause};
 
 use crate::events::{
-    Cursor, LastEvent, Packet, ToldHead, clear, event_body, read_event, recycle_fields, skip_at,
-    told_head,
+    Cursor, FieldsRead, LastEvent, Packet, ToldHead, clear, event_body, read_event, recycle_fields,
+    skip_at, told_head,
 };
 use crate::failure::Failure;
 use crate::repeated::pass_repeated;
@@ -90,11 +90,13 @@ fn body_passed(
     };
     clear(scopes, scratch);
     let skip = skip_at(skips, head.event);
-    let (fields, at) = event_body(alloc, packet, scopes, scratch, parts, skip, head.at)?;
+    let FieldsRead { fields, end, .. } = event_body(
+        alloc, packet, scopes, scratch, parts, skip, head.at,
+    )?;
     if let Some(fields) = fields {
         recycle_fields(scratch, fields);
     }
-    Ok(at)
+    Ok(end)
 }
 
 // The same, and nothing is read where nothing stands there.
@@ -167,8 +169,8 @@ fn pass_read(
     ensures stays { OnOk result (cleared scopes.new ≡ cleared scopes.old) }
 {
     match read_event(alloc, packet, scopes, scratch, None, skips, cursor) {
-        Ok((raw, next)) => {
-            recycle_fields(scratch, raw.fields);
+        Ok((read, next)) => {
+            recycle_fields(scratch, read.raw.fields);
             Ok(next)
         }
         Err(failure) => Err(failure),

@@ -5,13 +5,14 @@ ghost use Rattle.packet_decoder.specs.Pieces.{LiesIn};
 ghost use Rattle.packet_decoder.specs.EventReaders.{IsReadAs, PlanFits, and_before, events_left, planned_header, refusal};
 ghost use Rattle.read_plan.specs.FixedSizes.{AreSkips};
 ghost use Rattle.read_plan.specs.Lone.{IsLone};
+ghost use Rattle.ctf_fields.specs.Leaves.{IsSpan};
 ghost use Rattle.ctf_fields.specs.declared.raw.RawEvent.{RawEvent};
 ghost use Rattle.packet_decoder.specs.declared.failure.Failure.TheVariants as failure;
 ghost use Rattle.packet_decoder.specs.declared.piece.PacketResult.TheVariants as packet;
 ghost use Rattle.trace_types.specs.declared.cause.Cause.{Cause};
 
 use crate::cutting::bytes_from;
-use crate::events::{Cursor, Packet, read_event, recycle_fields};
+use crate::events::{Cursor, Packet, ReadEvent, read_event, recycle_fields};
 use crate::failure::Failure;
 use crate::packet_head::read_packet_head;
 use crate::passing::pass_rest;
@@ -98,7 +99,10 @@ impl<'a> EventReader<'a> {
         ensures within { IfOk result (λ next. IfSome next (λ raw. self.new.within ≡ self.old.within)) }
         ensures refused { (cause : Cause) → result ≡ Err (failure.Refused cause) → events_left self.old ≡ Err cause }
     {
-        self.next_event_of(alloc, &[])
+        match self.next_event_of(alloc, &[])? {
+            Some(read) => Ok(Some(read.raw)),
+            None => Ok(None),
+        }
     }
 
     /// Lets the headers of the packet's events be read by a plan, without keeping their fields, where there is one that fits them.
@@ -111,16 +115,26 @@ impl<'a> EventReader<'a> {
         Ok(())
     }
 
+    /// The packet's bits. The first bit of fields that were passed over is counted in them.
+    pub fn bits(&self) -> BitSpan<'a>
+        ensures bytes { result.bytes.now ≡ self.now.within.bytes }
+        ensures end { result.end ≡ self.now.within.end }
+        ensures span { IsSpan result.bytes.now result.end }
+    {
+        self.packet.bits
+    }
+
     /// The next event, and none after the last. Where `skips` has a number of bits for an event, its fields may be
-    /// passed over: the event is then given without them.
+    /// passed over: the event is then given without them, and with their first bit.
     pub fn next_event_of(
         &mut self,
         alloc: Global,
         skips: &[Option<u64>],
-    ) -> Result<Option<RawEvent>, Failure>
+    ) -> Result<Option<ReadEvent>, Failure>
         requires { AreSkips self.old.within.meta skips.now }
         ensures none { IfOk result (λ next. IfNone next (events_left self.old ≡ Ok [])) }
-        ensures some { IfOk result (λ next. IfSome next (λ raw. (whole : RawEvent) × IsReadAs skips.now whole raw × (events_left self.old ≡ and_before whole (events_left self.new)))) }
+        ensures some { IfOk result (λ next. IfSome next (λ read. (whole : RawEvent) × IsReadAs self.old.within.meta self.old.within.bytes self.old.within.end skips.now whole read × (events_left self.old ≡ and_before whole (events_left self.new)))) }
+        ensures at { IfOk result (λ next. IfSome next (λ read. IfSome read.fields_at (λ at. at ≤ 2 ^ 63))) }
         ensures counts { IfOk result (λ next. IfSome next (λ raw. (self.new.read ≡ self.old.read + 1) × (self.new.read ≤ 2 ^ 63) × (self.old.read < self.old.within.end))) }
         ensures within { IfOk result (λ next. IfSome next (λ raw. self.new.within ≡ self.old.within)) }
         ensures refused { (cause : Cause) → result ≡ Err (failure.Refused cause) → events_left self.old ≡ Err cause }
@@ -128,7 +142,7 @@ impl<'a> EventReader<'a> {
         if self.cursor.at >= self.packet.bits.end {
             return Ok(None);
         }
-        let (event, next) = read_event(
+        let (read, next) = read_event(
             alloc,
             &self.packet,
             &mut self.scopes,
@@ -139,7 +153,7 @@ impl<'a> EventReader<'a> {
         )?;
         self.cursor = next;
         self.read += 1;
-        Ok(Some(event))
+        Ok(Some(read))
     }
 
     /// Reads the packet to its end, and keeps no event. What `skips` says may be passed over is passed over.

@@ -16,6 +16,8 @@ mod stream_kinds;
 #[cfg(test)]
 mod stream_packets;
 #[cfg(test)]
+mod stream_placed;
+#[cfg(test)]
 mod stream_rests;
 #[cfg(test)]
 mod stream_skips;

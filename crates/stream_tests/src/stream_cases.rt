@@ -12,6 +12,14 @@ use std::test::Fail;
 use trace_types::OutOfMemory;
 use type_table::TraceMeta;
 
+/// What a text declares that is sound.
+pub fn meta_of<R: AllocGlobal + Abort>(rt: &R, text: &[u8]) -> Result<TraceMeta, Fail> {
+    match declared(rt, text)? {
+        Ok(meta) => Ok(meta),
+        Err(_) => panic!(rt; "metadata"),
+    }
+}
+
 /// Each file, and the text of its pieces: a line for each piece, and one for each event of an accepted packet.
 pub fn all_are_cut<R: AllocGlobal + Abort>(
     rt: &R,
@@ -31,10 +39,7 @@ pub fn is_cut<R: AllocGlobal + Abort>(
     file: &[u8],
     text: &str,
 ) -> Result<(), Fail> {
-    match declared(rt, metadata.as_bytes())? {
-        Ok(meta) => is_cut_by(rt, &meta, file, text),
-        Err(_) => panic!(rt; "metadata"),
-    }
+    is_cut_by(rt, &meta_of(rt, metadata.as_bytes())?, file, text)
 }
 
 fn is_cut_by<R: AllocGlobal + Abort>(

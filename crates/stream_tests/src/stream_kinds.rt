@@ -3,9 +3,9 @@ ghost use Rattle.std.specs.Prelude.{◌≡◌, ◌≤◌, length};
 ghost use Rattle.kernel_layout.specs.Tracepoints.{layout_of};
 ghost use Rattle.packet_decoder.specs.Pieces.{AllLieIn, LiesIn};
 
+use crate::stream_cases::meta_of;
 use ctf_fields::RawEvent;
 use kernel_layout::{Layout, kind_of};
-use metadata_tests::declared::declared;
 use packet_decoder::{PacketResult, PacketSpan, Piece, cut, decode};
 use std::alloc::{AllocGlobal, Global};
 use std::process::Abort;
@@ -32,10 +32,7 @@ fn are_kinds<R: AllocGlobal + Abort>(
     let mut text = Vec::new(rt.alloc());
     text.extend_from_slice(BEFORE)?;
     text.extend_from_slice(events.as_bytes())?;
-    match declared(rt, &text)? {
-        Ok(meta) => are_kinds_by(rt, &meta, file, expected),
-        Err(_) => panic!(rt; "metadata"),
-    }
+    are_kinds_by(rt, &meta_of(rt, &text)?, file, expected)
 }
 
 fn are_kinds_by<R: AllocGlobal + Abort>(

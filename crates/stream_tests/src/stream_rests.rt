@@ -3,8 +3,8 @@ ghost use Rattle.std.specs.Prelude.{◌≡◌, ◌≤◌, length};
 ghost use Rattle.kernel_layout.specs.Tracepoints.{layout_of};
 ghost use Rattle.packet_decoder.specs.Pieces.{LiesIn};
 
+use crate::stream_cases::meta_of;
 use kernel_layout::Layout;
-use metadata_tests::declared::declared;
 use packet_decoder::{EventReader, Failure, PacketSpan, Piece, cut};
 use std::alloc::{AllocGlobal, Global};
 use std::process::Abort;
@@ -17,46 +17,47 @@ const BITS: &str = "trace { byte_order = le; }; clock { name = c; offset = 1; };
     stream { event.header := struct { integer { size = 1; } id; }; };
     event { name = a; id = 0; };";
 
-/// The cause for which a file that is one packet is refused, if it is.
+/// Whether a file that is one packet is refused, and for what cause.
 fn is_passed<R: AllocGlobal + Abort>(
     rt: &R,
     metadata: &str,
     file: &[u8],
-    cause: Option<Cause>,
+    refusal: Result<(), Cause>,
 ) -> Result<(), Fail> {
-    match declared(rt, metadata.as_bytes())? {
-        Ok(meta) => is_passed_by(rt, &meta, file, cause),
-        Err(_) => panic!(rt; "metadata"),
-    }
+    is_passed_by(rt, &meta_of(rt, metadata.as_bytes())?, file, refusal)
 }
 
 fn is_passed_by<R: AllocGlobal + Abort>(
     rt: &R,
     meta: &TraceMeta,
     file: &[u8],
-    cause: Option<Cause>,
+    refusal: Result<(), Cause>,
 ) -> Result<(), Fail> {
     assert!(rt; file.len() <= 65_536);
-    match first_packet(rt.alloc(), meta, file) {
-        Ok(found) => assert_eq!(rt; found, cause),
+    match only_packet(rt.alloc(), meta, file) {
+        Ok(found) => assert_eq!(rt; found, Some(refusal)),
         Err(OutOfMemory) => panic!(rt; "memory"),
     }
     Ok(())
 }
 
-fn first_packet(alloc: Global, meta: &TraceMeta, file: &[u8]) -> Result<Option<Cause>, OutOfMemory>
+// Whether the packet that the file is is refused, and for what cause; none where the file isn't one packet.
+fn only_packet(
+    alloc: Global,
+    meta: &TraceMeta,
+    file: &[u8],
+) -> Result<Option<Result<(), Cause>>, OutOfMemory>
     requires { length file.now ≤ 65536 }
 {
     let layout = Layout::new(alloc, meta)?;
     let pieces = cut(alloc, meta, file)?;
-    match pieces.as_slice().first() {
-        Some(Piece::Packet(span)) => match passed(alloc, meta, &layout, file, span) {
-            Ok(()) => Ok(None),
-            Err(Failure::Refused(cause)) => Ok(Some(cause)),
-            Err(Failure::OutOfMemory) => Err(OutOfMemory),
-        },
-        Some(Piece::Bad { cause, .. }) => Ok(Some(*cause)),
-        None => Ok(None),
+    let [Piece::Packet(span)] = pieces.as_slice() else {
+        return Ok(None);
+    };
+    match passed(alloc, meta, &layout, file, span) {
+        Ok(()) => Ok(Some(Ok(()))),
+        Err(Failure::Refused(cause)) => Ok(Some(Err(cause))),
+        Err(Failure::OutOfMemory) => Err(OutOfMemory),
     }
 }
 
@@ -79,8 +80,8 @@ fn passed(
 // 320 events, and 20 of which a later one has the id 1, which isn't declared.
 #[test]
 fn events_that_repeat(rt: HostRuntime) -> Result<(), Fail> {
-    is_passed(&rt, BITS, &[0; 40], None)?;
-    is_passed(&rt, BITS, &[0, 0, 0x10], Some(Cause::UnknownEvent))
+    is_passed(&rt, BITS, &[0; 40], Ok(()))?;
+    is_passed(&rt, BITS, &[0, 0, 0x10], Err(Cause::UnknownEvent))
 }
 
 // The event of the id 1 takes 7 bits more: from the first bit on it fits, from the second it doesn't.
@@ -90,8 +91,8 @@ fn another_between(rt: HostRuntime) -> Result<(), Fail> {
         stream { event.header := struct { integer { size = 1; } id; }; };
         event { name = a; id = 0; };
         event { name = b; id = 1; fields := struct { integer { size = 7; } n; }; };";
-    is_passed(&rt, metadata, &[0, 0x01, 0xFF, 0], None)?;
-    is_passed(&rt, metadata, &[0, 0x02], Some(Cause::ShortContent))
+    is_passed(&rt, metadata, &[0, 0x01, 0xFF, 0], Ok(()))?;
+    is_passed(&rt, metadata, &[0, 0x02], Err(Cause::ShortContent))
 }
 
 // Headers of 3 bits in 24 and in 8; and aligned to 4, where the one after the seventh bit begins behind the end.
@@ -100,15 +101,15 @@ fn headers_past_the_end(rt: HostRuntime) -> Result<(), Fail> {
     let three = "trace { byte_order = le; }; clock { name = c; offset = 1; };
         stream { event.header := struct { integer { size = 3; } id; }; };
         event { name = a; id = 0; };";
-    is_passed(&rt, three, &[0; 3], None)?;
-    is_passed(&rt, three, &[0], Some(Cause::ShortContent))?;
+    is_passed(&rt, three, &[0; 3], Ok(()))?;
+    is_passed(&rt, three, &[0], Err(Cause::ShortContent))?;
     is_passed(
         &rt,
         "trace { byte_order = le; }; clock { name = c; offset = 1; };
         stream { event.header := struct { integer { size = 3; align = 4; } id; }; };
         event { name = a; id = 0; };",
         &[0],
-        Some(Cause::ShortContent),
+        Err(Cause::ShortContent),
     )
 }
 
@@ -122,7 +123,7 @@ fn orders_of_bits(rt: HostRuntime) -> Result<(), Fail> {
         event { name = a; id = 0; };
         event { name = b; id = 1; fields := struct { integer { size = 4; } n; }; };",
         &[0x01],
-        Some(Cause::ShortContent),
+        Err(Cause::ShortContent),
     )?;
     is_passed(
         &rt,
@@ -131,7 +132,7 @@ fn orders_of_bits(rt: HostRuntime) -> Result<(), Fail> {
         event { name = a; id = 0; };
         event { name = b; id = 1; fields := struct { integer { size = 4; } n; }; };",
         &[0x01],
-        None,
+        Ok(()),
     )
 }
 
@@ -141,6 +142,6 @@ fn an_id_with_a_sign(rt: HostRuntime) -> Result<(), Fail> {
     let metadata = "trace { byte_order = le; }; clock { name = c; offset = 1; };
         stream { event.header := struct { integer { size = 1; signed = true; } id; }; };
         event { name = a; id = 0; };";
-    is_passed(&rt, metadata, &[0, 0], None)?;
-    is_passed(&rt, metadata, &[0, 0x80], Some(Cause::UnknownEvent))
+    is_passed(&rt, metadata, &[0, 0], Ok(()))?;
+    is_passed(&rt, metadata, &[0, 0x80], Err(Cause::UnknownEvent))
 }

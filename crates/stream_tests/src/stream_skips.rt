@@ -3,10 +3,9 @@ ghost use Rattle.std.specs.Prelude.{◌≡◌, ◌≤◌, length};
 ghost use Rattle.kernel_layout.specs.Tracepoints.{layout_of};
 ghost use Rattle.packet_decoder.specs.Pieces.{AllLieIn, LiesIn};
 
-use crate::stream_cases::write_events;
+use crate::stream_cases::{meta_of, write_events};
 use ctf_fields::RawEvent;
 use kernel_layout::Layout;
-use metadata_tests::declared::declared;
 use packet_decoder::{EventReader, Failure, PacketSpan, Piece, cut};
 use std::alloc::{AllocError, AllocGlobal, Global};
 use std::io::Write;
@@ -32,10 +31,7 @@ fn are_passed_over<R: AllocGlobal + Abort>(
     let mut metadata = Vec::new(rt.alloc());
     metadata.extend_from_slice(BEFORE)?;
     metadata.extend_from_slice(events.as_bytes())?;
-    match declared(rt, &metadata)? {
-        Ok(meta) => are_passed_over_by(rt, &meta, file, text),
-        Err(_) => panic!(rt; "metadata"),
-    }
+    are_passed_over_by(rt, &meta_of(rt, &metadata)?, file, text)
 }
 
 fn are_passed_over_by<R: AllocGlobal + Abort>(
@@ -114,8 +110,8 @@ fn events_in(
     let mut reader = EventReader::open(alloc, meta, file, span)?;
     let mut events = Vec::new(alloc);
     reader.plan_headers(alloc, layout.lone(meta))?;
-    while let Some(event) = reader.next_event_of(alloc, layout.skips(meta))? {
-        if let Err(full) = events.push(event) {
+    while let Some(read) = reader.next_event_of(alloc, layout.skips(meta))? {
+        if let Err(full) = events.push(read.raw) {
             return Err(AllocError::from(full).into());
         }
     }
@@ -154,14 +150,15 @@ fn one_bit_too_few(rt: HostRuntime) -> Result<(), Fail> {
     )
 }
 
-// What is aligned to more than a byte is read, and so are the fields that a kind needs.
+// What is aligned to more than a byte is read, and so are the fields that a kind needs where they have no plan.
 #[test]
 fn fields_that_are_read(rt: HostRuntime) -> Result<(), Fail> {
     are_passed_over(
         &rt,
         "event { name = a; id = 1; fields := struct { integer { size = 32; align = 32; } n; }; };
-        event { name = irq_handler_exit; id = 2; fields := struct { u8 irq; }; };",
-        &[0x78, 0, 0x78, 0, 1, 5, 0, 0, 7, 0, 0, 0, 2, 6, 8],
-        "5 0 0 { n=7 }\n6 0 1 { irq=8 }\n",
+        event { name = irq_handler_exit; id = 2; fields := struct { struct { u8 irq; } s; }; };
+        event { name = irq_handler_entry; id = 3; fields := struct { u8 irq; }; };",
+        &[0x90, 0, 0x90, 0, 1, 5, 0, 0, 7, 0, 0, 0, 2, 6, 8, 3, 7, 9],
+        "5 0 0 { n=7 }\n6 0 1 { s={ irq=8 } }\n7 0 2 { }\n",
     )
 }

@@ -1,4 +1,4 @@
-use Rattle.std.proofs.Common.{◌≡◌, subst, sym}
+use Rattle.std.proofs.Common.{subst, sym}
 use Rattle.type_table.specs.TraceMetas.{TraceMetaModel}
 use Rattle.read_plan.specs.Lone.{IsLone}
 use Rattle.decode_pool.proofs.decoded_packet.plan_headers.Goals as goal

@@ -2,7 +2,7 @@ use Rattle.std.proofs.Common.{◌≡◌, ◌∙◌, subst, map, take, arith}
 use Rattle.std.proofs.lemmas.List.{length-set}
 use Rattle.kernel_layout.specs.Needed.{byte_of}
 use Rattle.kernel_layout.proofs.Names.{next_byte, whole_name}
-use Rattle.kernel_layout.proofs.needed.listed_name.Goals as goal
+use Rattle.kernel_layout.proofs.whole.listed_name.Goals as goal
 
 pub loop-index-preserved : goal.loop-index-preserved
 loop-index-preserved c = (
