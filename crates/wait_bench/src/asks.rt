@@ -1,10 +1,9 @@
 //! How long a history takes to be fed with the events of a list, and to answer questions.
 ghost use Rattle.list_messages.specs.Places.{IsReadTrace};
 
-use crate::read_trace;
+use crate::trace_in;
 use event_list::MergedTrace;
 use history_core::{Answer, History, history_of};
-use std::fs;
 use std::time::Instant;
 use trace_types::{CpuLeaf, KernelEvent, Merged, Path, ThreadKey, ThreadLeaf, Value};
 
@@ -27,21 +26,26 @@ struct Times {
 /// asks at an event's key for the processor's thread or for the status of the thread that comes.
 pub fn print_ask_times(rt: &HostRuntime, questions: &str, file: &str) -> anyhow::Result<()> {
     let questions = questions.parse::<u32>()?;
-    let Times {
-        events,
-        feed,
-        asking,
-        values,
-    } = times_of(rt, questions, file)?;
-    println!(rt;
-        "events {events} feed {feed} questions {questions} nanoseconds {asking} values {values}"
-    )?;
-    Ok(())
+    times_of(rt, questions, file)?.print(rt, questions)
+}
+
+impl Times {
+    fn print(self, rt: &HostRuntime, questions: u32) -> anyhow::Result<()> {
+        let Times {
+            events,
+            feed,
+            asking,
+            values,
+        } = self;
+        println!(rt;
+            "events {events} feed {feed} questions {questions} nanoseconds {asking} values {values}"
+        )?;
+        Ok(())
+    }
 }
 
 fn times_of(rt: &HostRuntime, questions: u32, file: &str) -> anyhow::Result<Times> {
-    let bytes = fs::read(rt, file)?;
-    let trace = read_trace(rt, &bytes)?;
+    let trace = trace_in(rt, file)?;
     fed_and_asked(rt, &trace, questions)
 }
 
@@ -50,10 +54,21 @@ fn fed_and_asked(rt: &HostRuntime, trace: &MergedTrace, questions: u32) -> anyho
 {
     let begun = Instant::now(rt)?;
     let history = history_of(rt.alloc(), &trace.events)?;
+    asked(rt, &history, &trace.events, questions, begun)
+}
+
+// `begun` is when the history's feeding was begun.
+fn asked(
+    rt: &HostRuntime,
+    history: &History,
+    events: &[Merged],
+    questions: u32,
+    begun: Instant,
+) -> anyhow::Result<Times> {
     let feed = begun.elapsed(rt)?.as_nanos();
-    let (asking, values) = fewest(rt, &history, &trace.events, questions)?;
+    let (asking, values) = fewest(rt, history, events, questions)?;
     Ok(Times {
-        events: trace.events.len(),
+        events: events.len(),
         feed,
         asking,
         values,
@@ -69,11 +84,23 @@ fn fewest(
 ) -> anyhow::Result<(u128, u32)> {
     let (mut fewest, mut values) = (u128::MAX, 0);
     for _ in 0..RUNS {
-        let begun = Instant::now(rt)?;
-        values = count_values(history, events, questions);
-        fewest = fewest.min(begun.elapsed(rt)?.as_nanos());
+        let (taken, counted) = timed_answers(rt, history, events, questions)?;
+        fewest = fewest.min(taken);
+        values = counted;
     }
     Ok((fewest, values))
+}
+
+// The nanoseconds of one run, and how many answers are values.
+fn timed_answers(
+    rt: &HostRuntime,
+    history: &History,
+    events: &[Merged],
+    questions: u32,
+) -> anyhow::Result<(u128, u32)> {
+    let begun = Instant::now(rt)?;
+    let values = count_values(history, events, questions);
+    Ok((begun.elapsed(rt)?.as_nanos(), values))
 }
 
 // Asks so many questions, and counts the answers that are values.

@@ -9,29 +9,41 @@ mod asks;
 
 ghost use Rattle.std.specs.Prelude.{IfOk};
 ghost use Rattle.list_messages.specs.Places.{IsReadTrace};
+ghost use Rattle.wait_graph.specs.Graph.{IsMergeWithMessages};
 
 use anyhow::bail;
 use critical_path::critical;
 use event_list::{MergedTrace, read_list};
+use host_merge::Placed;
 use list_messages::list_messages;
 use std::process::ExitCode;
 use std::time::Instant;
 use std::{env, fs};
+use trace_types::Merged;
 use wait_graph::{Waits, graph};
 
 const TIME_END: u64 = 1 << 62;
 
 fn main(rt: HostRuntime) -> anyhow::Result<ExitCode> {
+    let words = words_given(&rt)?;
+    do_command(&rt, &words)
+}
+
+fn words_given(rt: &HostRuntime) -> anyhow::Result<Vec<String>> {
     let mut words = Vec::new(rt.alloc());
-    for word in env::args(&rt)?.skip(1) {
+    for word in env::args(rt)?.skip(1) {
         words.push(word)?;
     }
+    Ok(words)
+}
+
+fn do_command(rt: &HostRuntime, words: &[String]) -> anyhow::Result<ExitCode> {
     let Some((command, words)) = words.split_first() else {
-        return usage(&rt);
+        return usage(rt);
     };
     match command.as_str() {
-        "asks" => each_asked(&rt, words),
-        command => each_timed(&rt, command == "time", words),
+        "asks" => each_asked(rt, words),
+        command => each_timed(rt, command == "time", words),
     }
 }
 
@@ -92,24 +104,64 @@ impl Run {
 }
 
 fn timed(rt: &HostRuntime, host: u32, tid: u32, file: &str) -> anyhow::Result<Run> {
-    let bytes = fs::read(rt, file)?;
-    let trace = read_trace(rt, &bytes)?;
+    let trace = trace_in(rt, file)?;
+    timed_messages(rt, &trace, host, tid)
+}
+
+// In these three no call that can fail comes after something large was made: such a function takes minutes to prove.
+fn timed_messages(rt: &HostRuntime, trace: &MergedTrace, host: u32, tid: u32) -> anyhow::Result<Run>
+    requires { IsReadTrace trace.now }
+{
     let begun = Instant::now(rt)?;
-    let placed = list_messages(&trace)?;
+    let placed = list_messages(trace)?;
+    timed_graph(rt, &trace.events, &placed, host, tid, begun)
+}
+
+// `begun` is when the messages were begun.
+fn timed_graph(
+    rt: &HostRuntime,
+    events: &[Merged],
+    placed: &[Placed],
+    host: u32,
+    tid: u32,
+    begun: Instant,
+) -> anyhow::Result<Run>
+    requires { IsMergeWithMessages events.now placed.now }
+{
     let messages = begun.elapsed(rt)?.as_nanos();
     let begun = Instant::now(rt)?;
-    let waits = graph(rt.alloc(), &trace.events, &placed)?;
+    let waits = graph(rt.alloc(), events, placed)?;
+    timed_path(rt, &waits, host, tid, messages, begun)
+}
+
+// `begun` is when the graph was begun.
+fn timed_path(
+    rt: &HostRuntime,
+    waits: &Waits,
+    host: u32,
+    tid: u32,
+    messages: u128,
+    begun: Instant,
+) -> anyhow::Result<Run> {
     let graph = begun.elapsed(rt)?.as_nanos();
     let begun = Instant::now(rt)?;
-    let pieces = path_of(rt, &waits, host, tid)?;
+    let pieces = path_of(rt, waits, host, tid)?;
     let path = begun.elapsed(rt)?.as_nanos();
     Ok(Run {
-        events: trace.events.len(),
+        events: waits.events() as usize,
         pieces,
         messages,
         graph,
         path,
     })
+}
+
+// The event list in a file.
+fn trace_in(rt: &HostRuntime, file: &str) -> anyhow::Result<MergedTrace>
+    ensures { IfOk result IsReadTrace }
+{
+    let bytes = fs::read(rt, file)?;
+    read_trace(rt, &bytes)
 }
 
 fn read_trace(rt: &HostRuntime, bytes: &[u8]) -> anyhow::Result<MergedTrace>
