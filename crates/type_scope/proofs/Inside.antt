@@ -1,8 +1,9 @@
 -- Ways from the innermost structure outward.
-use Rattle.std.proofs.Common.{◌≡◌, ◌∙◌, ◌++◌, List, [], ◌∷◌, map, reverse, ap, refl, sym}
+use Rattle.std.proofs.Common.{◌≡◌, ◌∙◌, ◌++◌, ◌<◌, List, [], ◌∷◌, length, map, reverse, None, ap, refl, sym, arith}
 use Rattle.std.proofs.lemmas.List.{map-append, reverse-append, reverse-reverse}
 use Rattle.type_scope.specs.declared.scope.Frame.{Frame as FrameKept}
-use Rattle.type_scope.specs.References.{found_or_else, from_inside, in_frame}
+use Rattle.type_scope.specs.Following.{follow}
+use Rattle.type_scope.specs.References.{from_inside}
 use Rattle.type_table.specs.Table.{Table}
 use Rattle.type_table.specs.Types.{Text}
 use Rattle.type_scope.specs.View.{frame_at}
@@ -10,10 +11,15 @@ use Rattle.type_scope.specs.View.{frame_at}
 along : {A B : Type 0} (f : A → B) (x y : A) → x ≡ y → f x ≡ f y
 along f x y h = ap f h
 
--- the innermost frame is the last that is kept
-inside_last : (t : Table) (outer : List FrameKept) (inner : FrameKept) (name : Text) (names : List Text)
-    → from_inside (map (frame_at t) (reverse (outer ++ inner ∷ []))) name names ≡ found_or_else (in_frame name (frame_at t inner)) names (from_inside (map (frame_at t) (reverse outer)) name names)
-inside_last t outer inner name names = along (λ fs. from_inside (map (frame_at t) fs) name names) _ _ (reverse-append outer (inner ∷ []))
+-- from nothing names lead to nothing
+from_none : (names : List Text) → follow None names ≡ None
+from_none [] = refl
+from_none (name ∷ names) = from_none names
+
+-- where no structure is being read nothing is found
+pub none_inside : (t : Table) (fs : List FrameKept) (name : Text) (names : List Text) → length fs < 1 → None ≡ from_inside (map (frame_at t) (reverse fs)) name names
+none_inside t [] name names h = sym (from_none names)
+none_inside t (f ∷ fs) name names h = absurd (omega (arith, h))
 
 reverse_map : {A B : Type 0} (f : A → B) (xs : List A) → map f (reverse xs) ≡ reverse (map f xs)
 reverse_map f [] = refl

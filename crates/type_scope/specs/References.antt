@@ -7,44 +7,32 @@ use Rattle.type_table.specs.declared.meta.ScopeName.TheVariants.{PacketHeader, P
 use Rattle.type_scope.specs.declared.field_path.Resolution.{Resolution}
 use Rattle.type_scope.specs.declared.field_path.Resolution.TheVariants.{Resolved, Invalid, Deferred}
 use Rattle.type_scope.specs.declared.field_path.PathUse.{PathUse}
-use Rattle.type_table.specs.Names.{names_said, same_name, scope_said}
+use Rattle.type_table.specs.Names.{names_said, scope_said}
 use Rattle.type_table.specs.Table.{field_path_by}
 use Rattle.type_table.specs.Types.{Text, FieldPath, Ty}
 use Rattle.type_scope.specs.Ahead.{may_lead}
 use Rattle.type_scope.specs.BlockContexts.{BlockContext}
-use Rattle.type_scope.specs.Following.{follow, or_else, suits_if_any}
+use Rattle.type_table.specs.FieldPaths as walk
+pub use Rattle.type_scope.specs.Following.{is_inner}
+use Rattle.type_scope.specs.Following.{follow, suits_if_any, types}
 use Rattle.type_scope.specs.TypeScopes.{Frame, TypeScope, DeferredPath, Scopes, Step, Good, pure, breaks, with_deferred}
 use Rattle.type_table.specs.PerScope.{of_scope}
 
 -- the nearest field of a name, which is the last
 abbrev pub nearest : Text → List (Text × Ty) → Option Ty
-nearest name [] = None
-nearest name (f ∷ fs) = or_else (nearest name fs) (if same_name name f.0 then Some f.1 else None)
+nearest name fs = walk.nearest types name fs
 
 -- the field of this name of a structure that is being read
 abbrev pub in_frame : Text → Frame → Option Ty
-in_frame name f = if f.is_struct then nearest name f.fields else None
-
-abbrev pub found_or_else : Option Ty → List Text → Option Ty → Option Ty
-found_or_else None names other = other
-found_or_else (Some ty) names other = follow (Some ty) names
+in_frame name f = walk.in_open types name f
 
 -- the first name is looked for in the innermost structure, and then outward
 abbrev pub from_inside : List Frame → Text → List Text → Option Ty
-from_inside [] name names = None
-from_inside (f ∷ fs) name names = found_or_else (in_frame name f) names (from_inside fs name names)
+from_inside frames name names = walk.from_here types frames (name ∷ names)
 
-abbrev pub is_inner : Text → Option Text → Bool
-is_inner name None = false
-is_inner name (Some inner) = same_name name inner
-
--- in a scope that is being read the field path begins at its outermost structure, and may go through those that are being read; a variant has no members
+-- in a scope that is being read the field path begins at its outermost structure, and may go through those that are being read
 abbrev pub from_outside : List Frame → List Text → Option Ty
-from_outside [] names = None
-from_outside (f ∷ fs) [] = None
-from_outside (f ∷ fs) (name ∷ names) =
-    if f.is_struct then (if is_inner name f.inner then from_outside fs names else follow (nearest name f.fields) names)
-    else None
+from_outside frames names = walk.from_outside types frames names
 
 -- the order in which the scopes are read
 abbrev pub rank : ScopeName → ℕ

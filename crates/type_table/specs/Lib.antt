@@ -1,6 +1,7 @@
 pub mod Causes
 pub mod TypeSizes
 pub mod Faults
+pub mod FieldPaths
 pub mod Labels
 pub mod Names
 pub mod PerScope
