@@ -88,26 +88,8 @@ one_counted k s false if_true if_false =
 
 -- ---- what the list tells
 
-known_at : (names : List Text) (n : ℕ) (o : Option Sought) → slice_get (known_of names) n ≡ Some o → sought_of (name_at names n) ≡ o
+pub known_at : (names : List Text) (n : ℕ) (o : Option Sought) → slice_get (known_of names) n ≡ Some o → sought_of (name_at names n) ≡ o
 known_at [] n o e = absurd (cc)
 known_at ([] ∷ names) n o e = absurd (cc)
 known_at ((c ∷ name) ∷ names) zero o e = cc
 known_at ((c ∷ name) ∷ names) (suc n) o e = known_at names n o e
-
--- a name that counts as one, of which it is known whether it is the one that is looked for
-pub known_one : (names : List Text) (n : ℕ) (k s : Sought) (b : Bool) → slice_get (known_of names) n ≡ Some (Some k) → (b ≡ true → k ≡ s) → (b ≡ false → k ≡ s → ⊥) → b ≡ same_name (text_of s) (name_at names n)
-known_one names n k s true found if_true if_false = sym (subst (λ x. same_name (text_of x) (name_at names n) ≡ true) (if_true refl) (counts (name_at names n) k (known_at names n (Some k) found)))
-known_one names n k s false found if_true if_false =
-    sym (false_from_ne_true (same_name (text_of s) (name_at names n)) (λ e.
-    let one : sought_of (name_at names n) ≡ Some k = known_at names n (Some k) found in
-    let other : sought_of (name_at names n) ≡ Some s = counted (name_at names n) s e in
-    let same : k ≡ s = cc in
-    if_false refl same))
-
--- a name that counts as none
-pub known_none : (names : List Text) (n : ℕ) (s : Sought) → slice_get (known_of names) n ≡ Some None → false ≡ same_name (text_of s) (name_at names n)
-known_none names n s found =
-    sym (false_from_ne_true (same_name (text_of s) (name_at names n)) (λ e.
-    let none : sought_of (name_at names n) ≡ None = known_at names n None found in
-    let other : sought_of (name_at names n) ≡ Some s = counted (name_at names n) s e in
-    cc))

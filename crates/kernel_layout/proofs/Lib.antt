@@ -4,6 +4,7 @@ pub mod AlikeKinds
 pub mod PassedOver
 pub mod KnownNames
 pub mod FirstChosen
+pub mod OneWalk
 pub mod PlanSteps
 pub mod PlannedReads
 pub mod PlannedNames

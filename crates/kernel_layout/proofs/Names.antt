@@ -1,10 +1,10 @@
--- The front of a name, of which no more than so many bytes are looked at; items that are taken one by one; values that are both there.
-use Rattle.std.proofs.Common.{◌≡◌, ◌∙◌, ◌+◌, ◌<◌, ℕ, zero, suc, Bool, true, false, cond, nat_lt, List, [], ◌∷◌, ◌++◌, Option, Some, None, map, slice_get, take, min, get_or, slice_set, length, refl, sym, ap, arith}
+-- The front of a name, of which no more than so many bytes are looked at; items that are taken one by one.
+use Rattle.std.proofs.Common.{◌≡◌, ◌∙◌, ◌+◌, ◌<◌, ℕ, zero, suc, Bool, true, false, cond, nat_lt, List, [], ◌∷◌, ◌++◌, Some, None, map, slice_get, take, min, get_or, slice_set, length, refl, sym, ap, arith}
 use Rattle.std.specs.List.{prefix_len}
 use Rattle.std.proofs.lemmas.List.{take_more, take_more_set, take_min, take-map, map-append, length-map}
 use Rattle.trace_types.specs.Padding.{name_in}
 use Rattle.ctf_fields.specs.declared.field.Field.{Field}
-use Rattle.kernel_layout.specs.Needed.{and_then, byte_of}
+use Rattle.kernel_layout.specs.Needed.{byte_of}
 
 add-one : (n : ℕ) → n + 1 ≡ suc n
 add-one n = omega arith
@@ -50,10 +50,6 @@ all_taken [] zero e = refl
 all_taken [] (suc n) e = refl
 all_taken (x ∷ xs) zero e = absurd (cc)
 all_taken (x ∷ xs) (suc n) e = ap (λ l. x ∷ l) (all_taken xs n e)
-
--- two values that are there
-pub both_there : {A B C : Type 0} (o : Option A) (p : Option B) (f : A → B → C) (a : A) (b : B) → Some a ≡ o → Some b ≡ p → Some (f a b) ≡ and_then o (λ x. and_then p (λ y. Some (f x y)))
-both_there o p f a b e g = rw (sym e, sym g) refl
 
 -- an item's number is less than how many items there are
 pub number_within : {A : Type 0} (xs : List A) (n : ℕ) (x : A) → slice_get xs n ≡ Some x → n < length xs

@@ -10,7 +10,7 @@ use Rattle.type_table.specs.declared.meta.FieldMeta.{FieldMeta}
 use Rattle.trace_types.specs.Padding.{name_in}
 use Rattle.ctf_fields.specs.Fields.{number_of, or_else}
 use Rattle.ctf_fields.specs.Leaves.{integer_read}
-use Rattle.ctf_fields.specs.Named.{first_by, first_in, first_member, first_named}
+use Rattle.ctf_fields.specs.Named.{first_in, first_member, first_named}
 use Rattle.ctf_fields.specs.Reading.{integer_type}
 use Rattle.ctf_fields.specs.declared.field.Field.{Field, out-Field, out-roll-Field, roll-Field}
 use Rattle.ctf_fields.specs.declared.field.Field.TheOpen.{Field-F}
@@ -28,6 +28,7 @@ use Rattle.kernel_layout.specs.declared.plan.FieldForm.TheVariants as form
 use Rattle.kernel_layout.specs.declared.plan.PlannedField.{PlannedField}
 use Rattle.kernel_layout.specs.declared.sought.Sought.{Sought}
 use Rattle.kernel_layout.specs.declared.sought.Sought.TheVariants as sought
+use Rattle.kernel_layout.proofs.FirstChosen.{in_struct}
 use Rattle.kernel_layout.proofs.KnownNames.{as_counted, counted, itself, none_counted}
 use Rattle.kernel_layout.proofs.Names.{next_byte}
 use Rattle.kernel_layout.proofs.PlanSteps.{IsForm, a_number, an_array, first_placed, is_form, plan_made}
@@ -140,10 +141,6 @@ module _ (t : Table) (bytes : List ℕ) (end at : ℕ) (s : Sought) (d : ℕ) wh
         rest.1 ∙ append_assoc done.fields (planned (sought_at t f) done.bits p.0) later,
         subst (Tells t bytes end at (found s (planned (sought_at t f) done.bits p.0 ++ later))) members one,
       )
-
-in_struct : (d : ℕ) (names : List Text) (text : Text) (ms : List Member) → first_in (suc d) names text (field.Struct ms) ≡ first_member (first_in d names text) names text ms
-unfolding first_in roll-Field out-Field denote.Hole.Carrier.roll
-in_struct d names text ms = ap (first_by (first_in d names text) names text) (out-roll-Field (Field-F.Struct ms))
 
 -- the first of a name that is sought, in the structure that a plan is of
 pub plan_finds : (t : Table) (plan : EventPlan) (bytes : List ℕ) (end at : ℕ) (s : Sought) → IsPlan t plan → Tells t bytes end at (found s plan.fields) (first_named t.names (text_of s) (Some (struct_at t plan.ty bytes end at)))

@@ -1,5 +1,5 @@
 -- What an event's fields hold, in the forms and ranges that kinds of events need. The first field of a name counts, also where its form or its range is wrong (this project's own).
-use Rattle.std.specs.Prelude.{ℕ, ℤ, ◌^◌, ◌*◌, ◌+◌, ◌%◌, ◌==◌, ◌&&◌, not, nat_le, nat_lt, int_le, Bool, false, List, [], ◌∷◌, length, map, take, Option, Some, None, if◌then◌else◌}
+use Rattle.std.specs.Prelude.{ℕ, ℤ, ◌^◌, ◌*◌, ◌+◌, ◌%◌, ◌==◌, ◌&&◌, not, nat_le, nat_lt, int_le, Bool, false, List, [], ◌∷◌, length, map, take, Option, Some, None, option_map, if◌then◌else◌}
 use Rattle.std.specs.Int.{w128, cast_unsigned}
 use Rattle.type_table.specs.Table.{Table}
 use Rattle.type_table.specs.Types.{Text}
@@ -21,6 +21,10 @@ and_then (Some a) next = next a
 
 abbrev pub number : Table → Field → Text → Option ℤ
 number t f name = value_named t name (Some f)
+
+-- the value of a field that is a number
+abbrev pub value_of : Option Field → Option ℤ
+value_of f = option_map (λ n. n.0) (number_of f)
 
 -- a tid, a processor, an interrupt or a status
 abbrev pub small : Table → Field → Text → Option ℕ

@@ -1,16 +1,16 @@
 //! Fields that are found by the numbers of their names.
-ghost use Rattle.std.specs.Prelude.{◌≡◌, Some, IfOk, slice_get};
+ghost use Rattle.std.specs.Prelude.{◌≡◌, Some, IfOk};
 ghost use Rattle.std.specs.Option.{option_copied};
 ghost use Rattle.type_table.specs.Names.{same_name};
 ghost use Rattle.type_table.specs.Table.{name_at};
 ghost use Rattle.ctf_fields.specs.Named.{first_at, first_in, first_member, first_named};
-ghost use Rattle.kernel_layout.specs.Sought.{known_of, text_of};
+ghost use Rattle.kernel_layout.specs.Sought.{known_of, sought_of, text_of};
 
 use crate::sought::{Sought, sought_of};
 use ctf_fields::{Field, Member};
 use std::alloc::Global;
 use trace_types::{MAX_TYPE_DEPTH, OutOfMemory};
-use type_table::{Table, is_same_name};
+use type_table::Table;
 
 /// For each name of a table, by its number, the one that it counts as of those that are looked for. An empty name ends
 /// the list. The only error is lack of memory.
@@ -112,16 +112,20 @@ fn counts_as(table: &Table, known: &[Option<Sought>], name: u32, sought: Sought)
     requires { known.now ≡ known_of table.now.names }
     ensures { result ≡ same_name (text_of sought) (name_at table.now.names name) }
 {
-    match known_at(known, name) {
-        Some(Some(found)) => found == sought,
-        Some(None) => false,
-        None => is_same_name(sought.text(), table.name(name)),
+    match sought_at(table, known, name) {
+        Some(found) => found == sought,
+        None => false,
     }
 }
 
-fn known_at(known: &[Option<Sought>], name: u32) -> Option<Option<Sought>>
-    ensures { result ≡ slice_get known.now name }
+/// The one that the name of this number counts as of those that are looked for, if any.
+#[inline(always)]
+pub fn sought_at(table: &Table, known: &[Option<Sought>], name: u32) -> Option<Sought>
+    requires { known.now ≡ known_of table.now.names }
+    ensures { result ≡ sought_of (name_at table.now.names name) }
 {
-    let found = known.get(name as usize)?;
-    Some(*found)
+    match known.get(name as usize) {
+        Some(found) => *found,
+        None => sought_of(table.name(name)),
+    }
 }

@@ -9,6 +9,7 @@ mod needed;
 mod placed;
 mod plan;
 mod planned;
+mod segment_fields;
 mod segments;
 mod sought;
 mod tracepoint;

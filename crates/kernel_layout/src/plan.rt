@@ -2,12 +2,12 @@
 ghost use Rattle.std.specs.Prelude.{◌≡◌, ◌≤◌, IfOk, IfSome};
 ghost use Rattle.std.specs.Option.{option_and_then};
 ghost use Rattle.ctf_fields.specs.Leaves.{IsReadable};
-ghost use Rattle.read_plan.specs.FixedSizes.{within_byte};
 ghost use Rattle.kernel_layout.specs.Plans.{end_behind, form_bits, form_of, integer_in, is_address, no_fields, numbers_of, placed, plan_from, plan_of, plan_of_type, whole_integer, with_bits, within_64};
 
 use crate::layout::{kind_at, needs_fields};
 use crate::sought::{Sought, sought_of};
 use ctf_fields::{align_at, integer_type, type_at};
+use read_plan::within_byte;
 use sqlite_items::Items;
 use std::alloc::Global;
 use trace_types::{EventKind, OutOfMemory};
@@ -168,12 +168,4 @@ fn whole_integer(integer: Option<Integer>) -> Option<Integer>
     } else {
         None
     }
-}
-
-// Whether whole bytes are aligned so.
-fn within_byte(align: u32) -> bool
-    requires { 1 ≤ align }
-    ensures { result ≡ within_byte align }
-{
-    8 % align == 0
 }

@@ -3,13 +3,12 @@ ghost use Rattle.std.specs.Prelude.{◌≡◌, ◌≤◌, Some, IfSome};
 ghost use Rattle.std.specs.Option.{option_copied};
 ghost use Rattle.ctf_fields.specs.Fields.{number_of};
 ghost use Rattle.ctf_fields.specs.Leaves.{IsReadable};
-ghost use Rattle.kernel_layout.specs.Kinds.{ports, segment};
-ghost use Rattle.kernel_layout.specs.Needed.{address, address_in, followed, joined, list_address, lone_address};
-ghost use Rattle.kernel_layout.specs.Sought.{known_of, text_of};
+ghost use Rattle.kernel_layout.specs.Kinds.{segment};
+ghost use Rattle.kernel_layout.specs.Needed.{address_in, followed, joined, list_address, lone_address};
+ghost use Rattle.kernel_layout.specs.Sought.{known_of};
 
-use crate::known::first_known;
-use crate::needed::{of_16, of_32};
-use crate::sought::Sought;
+use crate::needed::{value_of, within_16, within_32};
+use crate::segment_fields::segment_fields;
 use crate::whole::WholeFields;
 use ctf_fields::{Field, below_64, integer_type};
 use trace_types::SegKey;
@@ -20,12 +19,14 @@ pub fn segment(fields: WholeFields<'_>) -> Option<SegKey>
     requires { fields.known.now ≡ known_of fields.table.now.names }
     ensures { result ≡ segment fields.entry.table.now fields.entry.root.now }
 {
-    let saddr = address(fields, Sought::Saddr)?;
-    let daddr = address(fields, Sought::Daddr)?;
-    let (source_port, dest_port) = ports(fields)?;
-    let seq = of_32(fields, Sought::Seq)?;
-    let ack_seq = of_32(fields, Sought::AckSeq)?;
-    let flags = of_16(fields, Sought::Flags)?;
+    let found = segment_fields(fields.table, fields.known, fields.root);
+    let saddr = address_in(fields.table, found.saddr)?;
+    let daddr = address_in(fields.table, found.daddr)?;
+    let source_port = within_16(value_of(found.source_port))?;
+    let dest_port = within_16(value_of(found.dest_port))?;
+    let seq = within_32(value_of(found.seq))?;
+    let ack_seq = within_32(value_of(found.ack_seq))?;
+    let flags = within_16(value_of(found.flags))?;
     Some(SegKey {
         saddr,
         daddr,
@@ -37,28 +38,7 @@ pub fn segment(fields: WholeFields<'_>) -> Option<SegKey>
     })
 }
 
-// The ports that a segment goes from and to.
-fn ports(fields: WholeFields<'_>) -> Option<(u16, u16)>
-    requires { fields.known.now ≡ known_of fields.table.now.names }
-    ensures { result ≡ ports fields.entry.table.now fields.entry.root.now }
-{
-    Some((
-        of_16(fields, Sought::SourcePort)?,
-        of_16(fields, Sought::DestPort)?,
-    ))
-}
-
 // An address of at most 128 bits.
-fn address(fields: WholeFields<'_>, name: Sought) -> Option<u128>
-    requires { fields.known.now ≡ known_of fields.table.now.names }
-    ensures { result ≡ address fields.entry.table.now fields.entry.root.now (text_of name) }
-{
-    address_in(
-        fields.table,
-        first_known(fields.table, fields.known, name, fields.root),
-    )
-}
-
 fn address_in(table: &Table, field: Option<&Field>) -> Option<u128>
     ensures { result ≡ address_in table.now (option_copied field.entry) }
 {

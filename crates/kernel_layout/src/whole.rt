@@ -8,9 +8,10 @@ ghost use Rattle.kernel_layout.specs.Sought.{known_of};
 
 use crate::fields::{Fields, Segments};
 use crate::known::first_known;
+use crate::needed::value_of;
 use crate::segments::segment;
 use crate::sought::Sought;
-use ctf_fields::{Field, integer_type, number_of};
+use ctf_fields::{Field, integer_type};
 use trace_types::{Comm, SegKey};
 use type_table::Table;
 
@@ -30,8 +31,7 @@ impl Fields for WholeFields<'_> {
     ghost can_tell = { λ f. f.known.now ≡ known_of f.table.now.names };
 
     fn number(self, name: Sought) -> Option<i128> {
-        let (value, _) = number_of(first_known(self.table, self.known, name, self.root))?;
-        Some(value)
+        value_of(first_known(self.table, self.known, name, self.root))
     }
 
     fn comm(self, name: Sought) -> Option<Comm> {

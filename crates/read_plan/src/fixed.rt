@@ -83,8 +83,8 @@ fn number_size(integer: Integer) -> Option<FixedSize>
     }
 }
 
-// Whether whole bytes are aligned so.
-fn within_byte(align: u32) -> bool
+/// Whether whole bytes are aligned so: to so many bits, of which 8 are a multiple.
+pub fn within_byte(align: u32) -> bool
     requires { 1 ≤ align }
     ensures { result ≡ within_byte align }
 {

@@ -7,7 +7,7 @@ mod lone;
 mod planning;
 mod single;
 
-pub use fixed::{FixedSize, fixed_sizes, size_at, skip_fixed};
+pub use fixed::{FixedSize, fixed_sizes, size_at, skip_fixed, within_byte};
 pub use header::{HeaderNumber, HeaderNumbers, HeaderOption, HeaderPlan, MAX_PLANNED, NumberRow};
 pub use lone::headers_are_lone;
 pub use planning::header_plan;
