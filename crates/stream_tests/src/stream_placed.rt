@@ -2,6 +2,7 @@
 ghost use Rattle.std.specs.Prelude.{◌≤◌, length};
 
 use crate::stream_cases::meta_of;
+use crate::stream_kinds::{SWITCH, SWITCH_BYTES, switched};
 use ctf_fields::{BitSpan, Field, RawEvent};
 use kernel_layout::{Layout, kind_from};
 use sqlite_items::Items;
@@ -65,33 +66,7 @@ fn kind_in(alloc: Global, meta: &TraceMeta, bytes: &[u8]) -> Result<Kind, Fail>
 
 #[test]
 fn a_switch(rt: HostRuntime) -> Result<(), Fail> {
-    is_kind(
-        &rt,
-        "event { name = sched_switch; id = 1; fields := struct {
-            u8 _prev_comm[16]; i32 _prev_tid; i32 _prev_prio; i64 _prev_state;
-            u8 _next_comm[16]; i32 _next_tid; i32 _next_prio; }; };",
-        &[
-            1, 5, // its id and time
-            b'b', b'a', b's', b'h', 0, b'x', 0, 0, 0, 0, 0, 0, 0, 0, 0, 0, // the old thread's name
-            7, 0, 0, 0, 0xFF, 0xFF, 0xFF, 0xFF, // its tid and priority
-            1, 0, 0, 0, 0, 0, 0, 0, // its state
-            b'0', b'1', b'2', b'3', b'4', b'5', b'6', b'7', b'8', b'9', b'a', b'b', b'c', b'd',
-            b'e', b'f', // the new one's
-            0, 0, 0, 0, 20, 0, 0, 0,
-        ],
-        (
-            KernelEvent::Switch {
-                prev_state: 1,
-                prev_tid: 7,
-                next_tid: 0,
-                prev_prio: -1,
-                next_prio: 20,
-                prev_comm: Comm::first_of(b"bash"),
-                next_comm: Comm::first_of(b"0123456789abcde"),
-            },
-            false,
-        ),
-    )
+    is_kind(&rt, SWITCH, SWITCH_BYTES, (switched(), false))
 }
 
 // The fields that are not looked for are passed over, as is an empty list. A name may be of bytes with a sign.
