@@ -1,6 +1,7 @@
 //! What a metadata file declares.
 use meta_packets::join;
-use tsdl_lex::tokens;
+use std::alloc::Global;
+use tsdl_lex::{Token, tokens};
 use tsdl_parser::{BlockKind, Decl, Item, parse};
 
 // How many items of each kind there are.
@@ -34,14 +35,19 @@ const NONE: Counts = Counts {
 /// Prints one line: the bytes of the joined text, its tokens, and its items by kind.
 pub fn print_counts(rt: &HostRuntime, bytes: &[u8]) -> anyhow::Result<()> {
     let text = join(rt.alloc(), bytes)?;
-    let found = tokens(rt.alloc(), &text)?;
-    let decls = parse(rt.alloc(), &found)?;
-    let counts = counts_of(&decls);
+    print_text_counts(rt, &text)
+}
+
+fn print_text_counts(rt: &HostRuntime, text: &[u8]) -> anyhow::Result<()> {
+    let found = tokens(rt.alloc(), text)?;
+    print_item_counts(rt, text.len(), &found)
+}
+
+fn print_item_counts(rt: &HostRuntime, bytes: usize, found: &[Token]) -> anyhow::Result<()> {
+    let (items, counts) = items_of(rt.alloc(), found)?;
     println!(rt;
-        "bytes {} tokens {} items {} typealias {} struct {} variant {} enum {} trace {} stream {} event {} clock {} env {} callsite {}",
-        text.len(),
+        "bytes {bytes} tokens {} items {items} typealias {} struct {} variant {} enum {} trace {} stream {} event {} clock {} env {} callsite {}",
         found.len(),
-        decls.len(),
         counts.aliases,
         counts.structs,
         counts.variants,
@@ -54,6 +60,12 @@ pub fn print_counts(rt: &HostRuntime, bytes: &[u8]) -> anyhow::Result<()> {
         counts.callsites
     )?;
     Ok(())
+}
+
+// How many items tokens declare, and how many of each kind.
+fn items_of(alloc: Global, found: &[Token]) -> anyhow::Result<(usize, Counts)> {
+    let decls = parse(alloc, found)?;
+    Ok((decls.len(), counts_of(&decls)))
 }
 
 fn counts_of(decls: &[Decl]) -> Counts {

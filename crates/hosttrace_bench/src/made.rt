@@ -19,9 +19,19 @@ pub fn write_made(
     if hosts < 1 || hosts > 64 || rounds > 100_000 {
         bail!("there are 1 to 64 hosts, and at most 100000 rounds");
     }
-    let mut store = make(rt.alloc(), number.parse::<u64>()?, hosts, rounds)?;
+    let number = number.parse::<u64>()?;
+    let mut store = make(rt.alloc(), number, hosts, rounds)?;
+    write_hosts(rt, folder, hosts, &mut store)
+}
+
+fn write_hosts(
+    rt: &HostRuntime,
+    folder: &str,
+    hosts: u32,
+    store: &mut MemoryStore,
+) -> anyhow::Result<()> {
     for host in 0..hosts {
-        write_host(rt, folder, host, &mut store)?;
+        write_host(rt, folder, host, store)?;
     }
     Ok(())
 }

@@ -16,29 +16,49 @@ mod streams;
 mod times;
 
 use std::process::ExitCode;
+use std::thread::Threads;
 use std::{env, fs};
 
 fn main(rt: HostRuntime) -> anyhow::Result<ExitCode> {
+    let words = words_given(&rt)?;
+    do_command(&rt, &rt, &words)
+}
+
+fn words_given(rt: &HostRuntime) -> anyhow::Result<Vec<String>> {
     let mut words = Vec::new(rt.alloc());
-    for word in env::args(&rt)?.skip(1) {
+    for word in env::args(rt)?.skip(1) {
         words.push(word)?;
     }
+    Ok(words)
+}
+
+fn do_command(
+    rt: &HostRuntime,
+    threads: &(impl Threads + Sync),
+    words: &[String],
+) -> anyhow::Result<ExitCode> {
     let Some((command, files)) = words.split_first() else {
-        return usage(&rt);
+        return usage(rt);
     };
     match command.as_str() {
-        "count" | "time" => each_metadata(&rt, command.as_str(), files),
-        "matches" => each_number(&rt, files),
-        "made" => write_made(&rt, files),
-        "pool" => match files.split_first() {
-            Some((metadata, files)) => {
-                pool::print_pool_time(&rt, &rt, metadata.as_str(), files)?;
-                Ok(ExitCode::SUCCESS)
-            }
-            None => usage(&rt),
-        },
-        _ => each_trace(&rt, command.as_str(), files),
+        "count" | "time" => each_metadata(rt, command.as_str(), files),
+        "matches" => each_number(rt, files),
+        "made" => write_made(rt, files),
+        "pool" => each_pool(rt, threads, files),
+        command => each_trace(rt, command, files),
     }
+}
+
+fn each_pool(
+    rt: &HostRuntime,
+    threads: &(impl Threads + Sync),
+    words: &[String],
+) -> anyhow::Result<ExitCode> {
+    let Some((metadata, files)) = words.split_first() else {
+        return usage(rt);
+    };
+    pool::print_pool_time(rt, threads, metadata.as_str(), files)?;
+    Ok(ExitCode::SUCCESS)
 }
 
 fn each_metadata(rt: &HostRuntime, command: &str, files: &[String]) -> anyhow::Result<ExitCode> {

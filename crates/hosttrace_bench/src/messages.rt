@@ -3,11 +3,12 @@ ghost use Rattle.std.specs.Prelude.{◌≡◌, ◌≤◌, length};
 ghost use Rattle.trace_types.specs.declared.limits.TheConstants.{MAX_EVENTS};
 ghost use Rattle.message_match.specs.Messages.{AreNumbered, AreSmall};
 
+use crate::times::nanoseconds_since;
 use anyhow::bail;
 use message_match::{Messages, matches};
 use std::alloc::{AllocError, Global};
 use std::time::Instant;
-use trace_types::{Event, HostEvents, KernelEvent, MAX_EVENTS, SegKey, Text};
+use trace_types::{Event, HostEvents, KernelEvent, MAX_EVENTS, OutOfMemory, SegKey, Text};
 
 const RUNS: u32 = 5;
 
@@ -17,46 +18,43 @@ const SEED: u64 = 42;
 /// receives: the fewest nanoseconds of five runs of matching them, how many messages and ambiguous
 /// keys there are, and the sum of the messages' places.
 pub fn print_matches_time(rt: &HostRuntime, events: &str) -> anyhow::Result<()> {
-    let mut traffic = Traffic {
-        random: SEED,
-        time: 0,
-        last: key_of(SEED, false),
-        first: Vec::new(rt.alloc()),
-        second: Vec::new(rt.alloc()),
-    };
-    for _ in 0..events.parse::<u32>()? / 2 {
-        traffic.add()?;
-    }
-    let Traffic { first, second, .. } = traffic;
+    let Traffic { first, second, .. } = traffic_of(rt.alloc(), events.parse::<u32>()? / 2)?;
     if first.len() as u64 > MAX_EVENTS || second.len() as u64 > MAX_EVENTS {
         bail!("more events than a list may have");
     }
-    print_fewest(rt, events, first, second)
-}
-
-fn print_fewest(
-    rt: &HostRuntime,
-    events: &str,
-    first: Vec<Event>,
-    second: Vec<Event>,
-) -> anyhow::Result<()>
-    requires first { length first.items ≤ MAX_EVENTS }
-    requires second { length second.items ≤ MAX_EVENTS }
-{
     let hosts = [
         host_of(rt.alloc(), 0, first),
         host_of(rt.alloc(), 1, second),
     ];
+    print_fewest(rt, events, &hosts)
+}
+
+// So many segments.
+fn traffic_of(alloc: Global, segments: u32) -> Result<Traffic, AllocError> {
+    let mut traffic = Traffic {
+        random: SEED,
+        time: 0,
+        last: key_of(SEED, false),
+        first: Vec::new(alloc),
+        second: Vec::new(alloc),
+    };
+    for _ in 0..segments {
+        traffic.add()?;
+    }
+    Ok(traffic)
+}
+
+fn print_fewest(rt: &HostRuntime, events: &str, hosts: &[HostEvents]) -> anyhow::Result<()>
+    requires numbered { AreNumbered hosts.now }
+    requires small { AreSmall hosts.now }
+{
     let mut fewest = u128::MAX;
     for _ in 0..RUNS {
-        fewest = fewest.min(one_run(rt, &hosts)?);
+        fewest = fewest.min(one_run(rt, hosts)?);
     }
-    let found = matches(rt.alloc(), &hosts)?;
+    let (messages, ambiguous, places) = matched(rt.alloc(), hosts)?;
     println!(rt;
-        "matches {events} nanoseconds {fewest} messages {} ambiguous {} places {}",
-        found.matched.len(),
-        found.ambiguous,
-        places(&found)
+        "matches {events} nanoseconds {fewest} messages {messages} ambiguous {ambiguous} places {places}"
     )?;
     Ok(())
 }
@@ -66,10 +64,17 @@ fn one_run(rt: &HostRuntime, hosts: &[HostEvents]) -> anyhow::Result<u128>
     requires small { AreSmall hosts.now }
 {
     let begun = Instant::now(rt)?;
-    let found = matches(rt.alloc(), hosts)?;
-    let taken = begun.elapsed(rt)?.as_nanos();
-    drop(found);
-    Ok(taken)
+    let _found = matches(rt.alloc(), hosts)?;
+    nanoseconds_since(rt, begun)
+}
+
+// How many messages and ambiguous keys there are, and the sum of the messages' places.
+fn matched(alloc: Global, hosts: &[HostEvents]) -> Result<(usize, u64, u64), OutOfMemory>
+    requires numbered { AreNumbered hosts.now }
+    requires small { AreSmall hosts.now }
+{
+    let found = matches(alloc, hosts)?;
+    Ok((found.matched.len(), found.ambiguous, places(&found)))
 }
 
 // A sum that another program can compare.

@@ -1,16 +1,17 @@
 //! The events of a host, whose packets are decoded side by side.
-ghost use Rattle.std.specs.Prelude.{◌≤◌, ◌^◌, OnOk, length};
+ghost use Rattle.std.specs.Prelude.{◌≤◌, ◌^◌, IfOk, OnOk, length};
 ghost use Rattle.std.specs.List.{AllByRecursion};
 ghost use Rattle.decode_pool.specs.Hosts.{IsSmall};
 
 use crate::streams::read_meta;
+use crate::times::nanoseconds_since;
 use anyhow::bail;
 use decode_pool::{FileBytes, HostFiles, host_events};
 use std::alloc::Global;
 use std::fs;
 use std::thread::Threads;
 use std::time::Instant;
-use trace_types::Text;
+use trace_types::{OutOfMemory, Text};
 
 const RUNS: u32 = 5;
 
@@ -22,27 +23,30 @@ pub fn print_pool_time(
     metadata: &str,
     files: &[String],
 ) -> anyhow::Result<()> {
-    let meta = read_meta(rt, metadata)?;
-    let mut host = HostFiles {
-        host: 0,
-        meta,
-        files: Vec::new(rt.alloc()),
-    };
-    print_pool_of(rt, threads, files, &mut host)
+    let host = host_in(rt, metadata, files)?;
+    print_fewest(rt, threads, &host)
 }
 
-fn print_pool_of(
-    rt: &HostRuntime,
-    threads: &(impl Threads + Sync),
-    files: &[String],
-    host: &mut HostFiles,
-) -> anyhow::Result<()>
-    requires { AllByRecursion IsSmall host.old.files.items }
+// The trace of these files.
+fn host_in(rt: &HostRuntime, metadata: &str, files: &[String]) -> anyhow::Result<HostFiles>
+    ensures { IfOk result (λ host. AllByRecursion IsSmall host.files.items) }
 {
-    for file in files {
-        add_file(rt, file.as_str(), &mut host.files)?;
+    let files = files_in(rt, files)?;
+    Ok(HostFiles {
+        host: 0,
+        meta: read_meta(rt, metadata)?,
+        files,
+    })
+}
+
+fn files_in(rt: &HostRuntime, paths: &[String]) -> anyhow::Result<Vec<FileBytes>>
+    ensures { IfOk result (λ files. AllByRecursion IsSmall files.items) }
+{
+    let mut files = Vec::new(rt.alloc());
+    for path in paths {
+        add_file(rt, path.as_str(), &mut files)?;
     }
-    print_fewest(rt, threads, host)
+    Ok(files)
 }
 
 fn add_file(rt: &HostRuntime, path: &str, files: &mut Vec<FileBytes>) -> anyhow::Result<()>
@@ -82,13 +86,8 @@ fn print_fewest(
     for _ in 0..RUNS {
         fewest = fewest.min(one_run(rt, threads, host)?);
     }
-    let found = host_events(threads, rt.alloc(), host)?;
-    println!(rt;
-        "pool {fewest} events {} incomplete {} refused {}",
-        found.events.len(),
-        found.incomplete,
-        found.refused.len()
-    )?;
+    let (events, incomplete, refused) = decoded(rt.alloc(), threads, host)?;
+    println!(rt; "pool {fewest} events {events} incomplete {incomplete} refused {refused}")?;
     Ok(())
 }
 
@@ -100,8 +99,18 @@ fn one_run(
     requires { AllByRecursion IsSmall host.now.files.items }
 {
     let begun = Instant::now(rt)?;
-    let found = host_events(threads, rt.alloc(), host)?;
-    let taken = begun.elapsed(rt)?.as_nanos();
-    drop(found);
-    Ok(taken)
+    let _found = host_events(threads, rt.alloc(), host)?;
+    nanoseconds_since(rt, begun)
+}
+
+// How many events, incomplete events and refused packets a host has.
+fn decoded(
+    alloc: Global,
+    threads: &(impl Threads + Sync),
+    host: &HostFiles,
+) -> Result<(usize, u64, usize), OutOfMemory>
+    requires { AllByRecursion IsSmall host.now.files.items }
+{
+    let found = host_events(threads, alloc, host)?;
+    Ok((found.events.len(), found.incomplete, found.refused.len()))
 }

@@ -2,6 +2,7 @@
 ghost use Rattle.std.specs.Prelude.{◌≤◌, ◌^◌, length};
 ghost use Rattle.packet_decoder.specs.Pieces.{AllLieIn};
 
+use crate::times::nanoseconds_since;
 use anyhow::bail;
 use ctf_fields::RawEvent;
 use packet_decoder::{PacketResult, Piece, cut, decode};
@@ -96,7 +97,7 @@ fn time_file(
 ) -> anyhow::Result<u128> {
     let begun = Instant::now(rt)?;
     decode_file(rt.alloc(), meta, file, counts)?;
-    Ok(begun.elapsed(rt)?.as_nanos())
+    nanoseconds_since(rt, begun)
 }
 
 fn decode_file(
