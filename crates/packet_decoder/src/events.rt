@@ -366,8 +366,8 @@ fn event_fields(
     fields_at(alloc, packet, scopes, scratch, parts.fields, skip, at)
 }
 
-/// What stands after an event's header: the stream's context for events, and the event's own.
-#[tactic(auto, unfolding(crate::specs::Events::event_body))]
+/// What stands after an event's header: the stream's context for events, and the event's own. Most events have neither.
+#[tactic(auto, unfolding(crate::specs::Events::event_body, crate::specs::Events::event_fields))]
 pub fn event_body(
     alloc: Global,
     packet: &Packet<'_>,
@@ -383,6 +383,11 @@ pub fn event_body(
     ensures forward { IfOk result (λ r. (at ≤ r.end) × (r.end ≤ 2 ^ 63)) }
     ensures stays { OnOk result (cleared scopes.new ≡ cleared scopes.old) }
 {
+    if packet.parts.event_context.is_none() && parts.context.is_none() {
+        scopes.stream_context = None;
+        scopes.event_context = None;
+        return fields_at(alloc, packet, scopes, scratch, parts.fields, skip, at);
+    }
     let (context, at) = scope_at(
         alloc,
         packet,

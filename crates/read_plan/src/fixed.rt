@@ -83,7 +83,7 @@ fn number_size(integer: Integer) -> Option<FixedSize>
     }
 }
 
-/// Whether whole bytes are aligned so: to so many bits, of which 8 are a multiple.
+/// Whether whole bytes are aligned so: to so many bits, of which 8 is a multiple.
 pub fn within_byte(align: u32) -> bool
     requires { 1 ≤ align }
     ensures { result ≡ within_byte align }
