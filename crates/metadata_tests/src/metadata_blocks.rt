@@ -4,7 +4,7 @@ use crate::metadata_cases::{all_are_refused, all_are_typed, refused};
 use std::alloc::AllocGlobal;
 use std::process::Abort;
 use std::test::Fail;
-use type_table::MetaItemCause;
+use type_table::{MetaItemCause, TraceMeta};
 
 // Each whole text, the number of the item that is refused, and the cause.
 fn whole_are_refused<R: AllocGlobal + Abort>(
@@ -532,6 +532,18 @@ fn ways_further_on(rt: HostRuntime) -> Result<(), Fail> {
     )
 }
 
+// The places of four events by their streams and ids, and how many streams, events and clocks there are.
+fn told(meta: &TraceMeta) -> ([Option<u32>; 4], [usize; 3]) {
+    let events = [
+        meta.find_event(0, 7),
+        meta.find_event(1, 7),
+        meta.find_event(2, 7),
+        meta.find_event(1, 0),
+    ];
+    let counts = [meta.stream_count(), meta.event_count(), meta.clock_count()];
+    (events, counts)
+}
+
 // A stream may have an event of an id that another stream has.
 #[test]
 fn events_by_their_ids(rt: HostRuntime) -> Result<(), Fail> {
@@ -540,12 +552,6 @@ fn events_by_their_ids(rt: HostRuntime) -> Result<(), Fail> {
     let Ok(meta) = declared(&rt, text.as_bytes())? else {
         panic!(rt; "a text is refused");
     };
-    assert_eq!(rt; meta.find_event(0, 7), Some(0));
-    assert_eq!(rt; meta.find_event(1, 7), Some(1));
-    assert_eq!(rt; meta.find_event(2, 7), None);
-    assert_eq!(rt; meta.find_event(1, 0), None);
-    assert_eq!(rt; meta.stream_count(), 2);
-    assert_eq!(rt; meta.event_count(), 2);
-    assert_eq!(rt; meta.clock_count(), 1);
+    assert_eq!(rt; told(&meta), ([Some(0), Some(1), None, None], [2, 2, 1]));
     Ok(())
 }
