@@ -9,6 +9,7 @@ from pathlib import Path
 
 TOP = Path(__file__).resolve().parent.parent
 EXAMPLES = TOP / "examples/three-hosts"
+PEAK_MIB = 64
 
 # How the script hosttrace starts the program: the C library takes memory in large pages and in large steps.
 TUNABLES = re.search(r"GLIBC_TUNABLES-([^}]*)}", (TOP / "hosttrace").read_text())[1]
@@ -68,6 +69,17 @@ def has_babeltrace() -> bool:
 def folders_in(folder: Path) -> list:
     """The trace folders in a folder, by name."""
     return sorted(host for host in folder.iterdir() if host.is_dir())
+
+
+def bytes_of(folders: list) -> int:
+    """The bytes of all files in trace folders."""
+    return sum(file.stat().st_size for folder in folders for file in folder.iterdir() if file.is_file())
+
+
+def peak_holds(what: str, peak: int, folders: list, events: int, an_event: int) -> bool:
+    """Whether bytes at the peak are at most the files, so many an event and 64 MiB; prints the ratio."""
+    allowed = bytes_of(folders) + an_event * events + PEAK_MIB * 2**20
+    return holds(f"{what}: bytes at the peak against the files, {an_event} an event and {PEAK_MIB} MiB", peak / allowed, 1)
 
 
 def argument(default: Path) -> Path:
