@@ -10,6 +10,7 @@ from pathlib import Path
 TOP = Path(__file__).resolve().parent.parent
 EXAMPLES = TOP / "examples/three-hosts"
 PEAK_MIB = 64
+EVENTS_PEAK = 200  # bytes an event that the command events may take at the peak, beside the files and those MiB
 
 # How the script hosttrace starts the program: the C library takes memory in large pages and in large steps.
 TUNABLES = re.search(r"GLIBC_TUNABLES-([^}]*)}", (TOP / "hosttrace").read_text())[1]
@@ -76,7 +77,7 @@ def bytes_of(folders: list) -> int:
     return sum(file.stat().st_size for folder in folders for file in folder.iterdir() if file.is_file())
 
 
-def peak_holds(what: str, peak: int, folders: list, events: int, an_event: int) -> bool:
+def peak_holds(what: str, peak: int, folders: list, events: int, an_event: int = EVENTS_PEAK) -> bool:
     """Whether bytes at the peak are at most the files, so many an event and 64 MiB; prints the ratio."""
     allowed = bytes_of(folders) + an_event * events + PEAK_MIB * 2**20
     return holds(f"{what}: bytes at the peak against the files, {an_event} an event and {PEAK_MIB} MiB", peak / allowed, 1)
