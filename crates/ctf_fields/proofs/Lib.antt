@@ -8,4 +8,5 @@ pub mod Nearest
 pub mod Aligned
 pub mod SameTypes
 pub mod Steps
+pub mod TwoSpellings
 pub mod Zeros

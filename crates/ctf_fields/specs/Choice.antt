@@ -1,5 +1,5 @@
 -- The field of a variant that is chosen (the choice by the first label that fits is this project's own).
-use Rattle.std.specs.Prelude.{ℕ, ℤ, ◌&&◌, int_le, List, [], ◌∷◌, Option, Some, None, slice_get, if◌then◌else◌}
+use Rattle.std.specs.Prelude.{ℕ, ℤ, ◌&&◌, int_le, min, List, [], ◌∷◌, Option, Some, None, slice_get, if◌then◌else◌}
 use Rattle.type_table.specs.Table.{Table}
 use Rattle.type_table.specs.Types.{Text}
 use Rattle.type_table.specs.declared.meta.FieldMeta.{FieldMeta}
@@ -12,6 +12,12 @@ use Rattle.ctf_fields.specs.Fields.{or_else, same}
 abbrev pub first_named : List Text → ℕ → List FieldMeta → Option FieldMeta
 first_named names name [] = None
 first_named names name (f ∷ fs) = if same names name f.name then Some f else first_named names name fs
+
+-- the smaller of two indices, where there are both (this project's own)
+abbrev pub earlier : Option ℕ → Option ℕ → Option ℕ
+earlier None b = b
+earlier (Some a) None = Some a
+earlier (Some a) (Some b) = Some (min a b)
 
 -- the field that a label chooses for a value
 abbrev pub by_label : List Text → ℤ → LabelMeta → List FieldMeta → Option FieldMeta

@@ -1,10 +1,10 @@
 //! Fields by their types.
-ghost use Rattle.std.specs.Prelude.{◌≡◌, ◌≤◌, ◌∷◌, ◌^◌, ◌%◌, [], None, Some, option_map, reverse, slice_get, IfOk, OnOk};
+ghost use Rattle.std.specs.Prelude.{◌≡◌, ◌≤◌, ◌∷◌, ◌^◌, ◌%◌, [], None, Some, length, option_map, reverse, slice_get, IfOk, OnOk};
 ghost use Rattle.std.specs.Option.{option_copied};
 ghost use Rattle.ctf_fields.specs.Choice.{chosen};
 ghost use Rattle.ctf_fields.specs.Leaves.{IsSpan};
 ghost use Rattle.ctf_fields.specs.Reading.{Gives, GivesWith, length_of, number_at, read, read_by, read_choice, read_item, read_items, read_list, read_member, read_members, read_struct, scope_read};
-ghost use Rattle.type_table.specs.Table.{IsSound};
+ghost use Rattle.type_table.specs.Table.{IsSound, NamesIn};
 
 use crate::choice::chosen;
 use crate::error::FieldError;
@@ -99,6 +99,7 @@ fn read_by(
 ) -> Result<(Field, u64), FieldError>
     requires at { at ≤ 2 ^ 63 }
     requires sound { IsSound meta.now }
+    requires names { NamesIn (length source.now.table.names) meta.now }
     ensures gives { Gives (read_by (read depth source.now) source.now name ty (Some meta.now) (reverse scratch.old.open_structs) at) result }
     ensures forward { IfOk result (λ r. (at ≤ r.1) × (r.1 ≤ 2 ^ 63)) }
     ensures stays { OnOk result (reverse scratch.new.open_structs ≡ reverse scratch.old.open_structs) }
@@ -120,11 +121,8 @@ fn read_by(
             )
         }
         TypeMeta::Variant { tag, fields } => {
-            let field = chosen(
-                source,
-                source.number_at(scratch.open_structs.as_slice(), tag),
-                fields.as_slice(),
-            );
+            let tag = source.number_at(scratch.open_structs.as_slice(), tag);
+            let field = chosen(alloc, source, tag, fields)?;
             read_choice(alloc, source, scratch, depth, field, at)
         }
         TypeMeta::Array { length, item } => {

@@ -1,10 +1,10 @@
 //! What fields are read from.
-ghost use Rattle.std.specs.Prelude.{◌≡◌, ◌≤◌, ◌%◌, ◌^◌, IfOk, IfSome, reverse, slice_get};
+ghost use Rattle.std.specs.Prelude.{◌≡◌, ◌≤◌, ◌%◌, ◌^◌, IfOk, IfSome, length, reverse, slice_get};
 ghost use Rattle.std.specs.Option.{option_copied};
 ghost use Rattle.ctf_fields.specs.Leaves.{IsReadable, IsSpan, integer_read, text_read};
 ghost use Rattle.ctf_fields.specs.Reading.{Gives, array_by, integer_of, integer_type, leaf, read_number, align_at, number_at};
 ghost use Rattle.ctf_fields.specs.declared.field.Field.TheVariants as variant;
-ghost use Rattle.type_table.specs.Table.{IsSound};
+ghost use Rattle.type_table.specs.Table.{IsSound, NamesIn};
 
 use crate::error::FieldError;
 use crate::field::Field;
@@ -67,6 +67,7 @@ impl<'a> Source<'a> {
     pub fn type_at(&self, index: u32) -> Option<&TypeMeta>
         ensures found { option_copied result ≡ slice_get self.now.table.types index }
         ensures sound { IfSome result (λ ty. IsSound ty.now) }
+        ensures names { IfSome result (λ ty. NamesIn (length self.now.table.names) ty.now) }
     {
         type_at(self.table, index)
     }

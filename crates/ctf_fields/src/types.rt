@@ -1,9 +1,9 @@
 //! Types by their indices.
-ghost use Rattle.std.specs.Prelude.{◌≡◌, ◌≤◌, ◌%◌, IfSome, Some, slice_get};
+ghost use Rattle.std.specs.Prelude.{◌≡◌, ◌≤◌, ◌%◌, IfSome, Some, length, slice_get};
 ghost use Rattle.std.specs.Option.{option_copied};
 ghost use Rattle.ctf_fields.specs.Leaves.{IsReadable};
 ghost use Rattle.ctf_fields.specs.Reading.{align_at, integer_of, integer_type};
-ghost use Rattle.type_table.specs.Table.{IsSound};
+ghost use Rattle.type_table.specs.Table.{IsSound, NamesIn};
 
 use type_table::{Integer, Table, TypeMeta};
 
@@ -11,6 +11,7 @@ use type_table::{Integer, Table, TypeMeta};
 pub fn type_at(table: &Table, index: u32) -> Option<&TypeMeta>
     ensures found { option_copied result ≡ slice_get table.now.types index }
     ensures sound { IfSome result (λ ty. IsSound ty.now) }
+    ensures names { IfSome result (λ ty. NamesIn (length table.now.names) ty.now) }
 {
     if (index as usize) < table.len() {
         Some(table.get(index))

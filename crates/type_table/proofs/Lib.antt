@@ -4,7 +4,9 @@ pub mod KnownSizes
 pub mod Halves
 pub mod Keeping
 pub mod Rates
+pub mod Spellings
 pub mod Sums
 pub mod Tables
 pub mod Texts
 pub mod Trees
+pub mod RisingNames

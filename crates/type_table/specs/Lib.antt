@@ -9,3 +9,4 @@ pub mod SameTrace
 pub mod Table
 pub mod TraceMetas
 pub mod Types
+pub mod VariantFields

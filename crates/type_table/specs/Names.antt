@@ -1,9 +1,11 @@
 -- Names of fields and labels, and field paths to fields (CTF 1.8, section 7.3.2; that one underscore is left out is LTTng's use).
-use Rattle.std.specs.Prelude.{Bool, List, [], ◌∷◌, ◌++◌, Option, Some, None, codes, ◌&&◌, if◌then◌else◌, option_map}
+use Rattle.std.specs.Prelude.{ℕ, Bool, false, List, [], ◌∷◌, ◌++◌, Option, Some, None, codes, nat_eq, ◌&&◌, if◌then◌else◌, option_map, option_and_then, position}
+use Rattle.std.specs.List.{IsDistinct}
 use Rattle.std.specs.Option.{option_map_or}
 use Rattle.tsdl_parser.specs.Symbols.{is_text}
 use Rattle.type_table.specs.declared.meta.ScopeName.{ScopeName}
 use Rattle.type_table.specs.declared.meta.ScopeName.TheVariants.{PacketHeader, PacketContext, EventHeader, StreamContext, EventContext, EventFields}
+use Rattle.type_table.specs.Table.{name_at}
 use Rattle.type_table.specs.Types.{Text}
 
 -- the name without one leading underscore
@@ -14,6 +16,33 @@ bare (c ∷ name) = if is_text (c ∷ []) (codes "_") then name else c ∷ name
 -- names count as one where they differ in a leading underscore alone
 abbrev pub same_name : Text → Text → Bool
 same_name a b = is_text (bare a) (bare b)
+
+-- a name begins with an underscore
+abbrev pub is_underscored : Text → Bool
+is_underscored [] = false
+is_underscored (c ∷ name) = is_text (c ∷ []) (codes "_")
+
+-- the one other name that counts as this one: without its leading underscore, unless one more is behind that, and else with one before it
+abbrev pub other_spelling : Text → Option Text
+other_spelling name = if is_underscored name then (if is_underscored (bare name) then None else Some (bare name)) else Some (codes "_" ++ name)
+
+-- the number of the other spelling of a name, if it has one that is among the names (this project's own)
+abbrev pub other_number : List Text → ℕ → Option ℕ
+other_number names n = option_and_then (λ other. position (is_text other) names) (other_spelling (name_at names n))
+
+-- a text, if there is one, is this text
+abbrev pub is_the : Option Text → Text → Bool
+is_the None name = false
+is_the (Some other) name = is_text other name
+
+-- this is a number, if there is one (this project's own)
+abbrev pub is_number : Option ℕ → ℕ → Bool
+is_number None n = false
+is_number (Some m) n = nat_eq n m
+
+-- all names are different ones (this project's own)
+abbrev pub AreDistinct : List Text → Type 0
+AreDistinct names = IsDistinct is_text names
 
 -- the words begin with these, and then come those
 abbrev pub behind_two : Text → Text → List Text → Option (List Text)

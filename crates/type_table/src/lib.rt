@@ -15,6 +15,7 @@ mod scope;
 mod table;
 mod trace_meta;
 mod type_size;
+mod variant_fields;
 
 pub use cause::MetaItemCause;
 pub use declared::{ClockRate, Declared, EventId, EventParts, StreamScopes};
@@ -29,3 +30,4 @@ pub use scope::split_scope;
 pub use table::Table;
 pub use trace_meta::TraceMeta;
 pub use type_size::{MAX_NODES, TypeSize};
+pub use variant_fields::VariantFields;

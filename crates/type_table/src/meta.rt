@@ -1,6 +1,7 @@
 //! The types of a trace's metadata, by their indices.
 use crate::integer::Integer;
 use crate::labels::Labels;
+use crate::variant_fields::VariantFields;
 use sqlite_items::Items;
 
 /// An index in `types`, below that of the type that names it.
@@ -23,7 +24,7 @@ pub enum TypeMeta {
     },
     Variant {
         tag: Reference,
-        fields: Items<FieldMeta>,
+        fields: VariantFields,
     },
     Array {
         length: u64,

@@ -1,6 +1,6 @@
 //! Names of fields and labels.
 ghost use Rattle.std.specs.Prelude.{◌≡◌, IfOk};
-ghost use Rattle.type_table.specs.Names.{bare, same_name, spaced};
+ghost use Rattle.type_table.specs.Names.{bare, other_spelling, same_name, spaced};
 
 use std::alloc::Global;
 use trace_types::{OutOfMemory, Text};
@@ -29,6 +29,22 @@ pub fn is_same_name(a: &[u8], b: &[u8]) -> bool
     ensures { result ≡ same_name a.now b.now }
 {
     bare(a) == bare(b)
+}
+
+/// The one other name that counts as this one, if there is one.
+pub fn other_spelling(alloc: Global, name: &[u8]) -> Result<Option<Text>, OutOfMemory>
+    ensures { IfOk result (λ other. other ≡ other_spelling name.now) }
+{
+    match name {
+        [b'_', b'_', ..] => Ok(None),
+        [b'_', rest @ ..] => Ok(Some(Text::from_bytes(alloc, rest)?)),
+        _ => {
+            let mut other = Vec::new(alloc);
+            other.push(b'_')?;
+            other.extend_from_slice(name)?;
+            Ok(Some(Text::from_vec(other)))
+        }
+    }
 }
 
 /// Words with a space between them, as an alias is known by.

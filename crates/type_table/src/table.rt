@@ -2,6 +2,7 @@
 ghost use Rattle.std.specs.Prelude.{◌≡◌, ◌<◌, ◌↔◌, ◌≤◌, ◌%◌, [], slice_get, Some, IsTrue, length, true, false, IfNone, IfOk, IfSome, OnOk};
 ghost use Rattle.type_table.specs.TypeSizes.{type_size_of};
 ghost use Rattle.type_table.specs.Faults.{OnBreak};
+ghost use Rattle.type_table.specs.Names.{AreDistinct, other_number};
 ghost use Rattle.type_table.specs.Table.{FieldsIn, IsBased, IsSound, IsSoundTable, Keeps, NamesIn, RefersIn, fields_at, name_at, shape, tree, trees};
 ghost use Rattle.type_table.specs.Types.{MAX_TYPE_DEPTH, MAX_NODES, depth, fits, nodes, nodes_of_all, widest};
 ghost use Rattle.type_table.specs.declared.cause.MetaItemCause.TheVariants as causes;
@@ -10,6 +11,7 @@ use crate::cause::MetaItemCause;
 use crate::fault::Fault;
 use crate::few::are_few;
 use crate::meta::{FieldMeta, TypeMeta};
+use crate::names::other_spelling;
 use crate::type_size::{TypeSize, meta_type_size, sum_of, type_size_at};
 use indexmap::IndexSet;
 use sqlite_items::Items;
@@ -135,6 +137,21 @@ impl Table {
             Some(name) => name.as_bytes(),
             None => &[],
         }
+    }
+
+    /// The number of the other spelling of a name, if it has one that is used. No two numbers are of one name.
+    pub fn other_number(&self, alloc: Global, name: u32) -> Result<Option<u32>, OutOfMemory>
+        ensures number { IfOk result (λ other. other ≡ other_number self.now.names name) }
+        ensures distinct { AreDistinct self.now.names }
+    {
+        let name = match self.names.as_slice().get(name as usize) {
+            Some(name) => name.as_bytes(),
+            None => &[],
+        };
+        let Some(other) = other_spelling(alloc, name)? else {
+            return Ok(None);
+        };
+        Ok(self.names.get_index_of(&other).map(|number| number as u32))
     }
 
     /// How many types there are.

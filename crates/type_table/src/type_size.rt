@@ -56,7 +56,8 @@ pub fn meta_type_size(type_sizes: &[TypeSize], meta: &TypeMeta) -> Option<TypeSi
             })
         }
         TypeMeta::Variant { fields, .. } => {
-            let sum = sum_of(type_sizes, fields.as_slice())?;
+            let fields = fields.as_slice();
+            let sum = sum_of(type_sizes, fields)?;
             around(Inside {
                 align: 1,
                 depth: sum.depth,

@@ -14,7 +14,7 @@ use crate::scope::{DeferredPath, TypeScope};
 use sqlite_items::Items;
 use std::alloc::{AllocError, Global};
 use trace_types::{OutOfMemory, Text};
-use type_table::{Fault, FieldMeta, MetaItemCause, Reference, ScopeName, TypeMeta};
+use type_table::{Fault, FieldMeta, MetaItemCause, Reference, ScopeName, TypeMeta, VariantFields};
 
 impl TypeScope {
     /// Notes a field path from here, which leads to what it may lead to, or which the end of the block decides on.
@@ -131,7 +131,10 @@ impl TypeScope {
     {
         let tag = self.reference(alloc, words)?;
         let fields = self.fields_inside(alloc, index)?;
-        self.push(TypeMeta::Variant { tag, fields })
+        self.push(TypeMeta::Variant {
+            tag,
+            fields: VariantFields::from_items(fields),
+        })
     }
 
     // The fields of a variant.

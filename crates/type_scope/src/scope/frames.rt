@@ -9,7 +9,7 @@ use crate::scope::{Frame, TypeScope};
 use sqlite_items::Items;
 use std::alloc::{AllocError, Global};
 use trace_types::Text;
-use type_table::{Fault, FieldMeta, MetaItemCause, Reference, TypeMeta};
+use type_table::{Fault, FieldMeta, MetaItemCause, Reference, TypeMeta, VariantFields};
 
 impl TypeScope {
     /// Begins a structure or a variant.
@@ -76,7 +76,10 @@ impl TypeScope {
             scope: None,
             words: Items::new(alloc),
         };
-        self.push(TypeMeta::Variant { tag, fields })
+        self.push(TypeMeta::Variant {
+            tag,
+            fields: VariantFields::from_items(fields),
+        })
     }
 
     /// Notes that a field of the name of this number is read next, a structure itself, or one that is none.
