@@ -87,7 +87,8 @@ fn packet_within(
     }
 }
 
-// Before the first event of a packet, whose headers are read by a plan where there is one that fits them.
+// Before the first event of a packet. Its context and the headers of its events are read by plans where there are any that fit
+// them.
 fn open_planned<'a>(
     alloc: Global,
     meta: &'a TraceMeta,
@@ -103,7 +104,7 @@ fn open_planned<'a>(
     ensures within { IfOk result (λ r. r.within.meta ≡ meta.now) }
     ensures refused { (cause : Cause) → result ≡ Err (failure.Refused cause) → decoded meta.now file.now span.now ≡ packet.Refused cause }
 {
-    let mut reader = EventReader::open(alloc, meta, file, span)?;
+    let mut reader = EventReader::open_known(alloc, meta, layout.contexts(meta), file, span)?;
     plan_headers(alloc, meta, layout, &mut reader)?;
     Ok(reader)
 }

@@ -136,7 +136,8 @@ fn cut_file<'a>(
     ensures within { IfOk result (λ r. IfSome r (λ found. found.packets ≤ limits.packets)) }
     ensures more { IfOk result (λ r. IfNone r (limits.packets < packets_in (pieces host.now.meta file.now))) }
 {
-    let Some(pieces) = cut_within(alloc, &host.meta, file, limits.packets)? else {
+    let known = layout.contexts(&host.meta);
+    let Some(pieces) = cut_within(alloc, &host.meta, known, file, limits.packets)? else {
         return Ok(None);
     };
     let packets = packets_in(pieces.as_slice())?;

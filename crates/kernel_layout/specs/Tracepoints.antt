@@ -4,8 +4,10 @@ use Rattle.trace_types.specs.CallNames.{is_call_in, is_call_out}
 use Rattle.tsdl_parser.specs.Symbols.{is_text}
 use Rattle.type_table.specs.Types.{Text}
 use Rattle.type_table.specs.TraceMetas.{TraceMetaModel}
+use Rattle.read_plan.specs.Contexts.{context_plans}
 use Rattle.read_plan.specs.FixedSizes.{sizes_of}
-use Rattle.read_plan.specs.Lone.{headers_are_lone}
+use Rattle.read_plan.specs.Lone.{contexts_are_lone, headers_are_lone}
+use Rattle.read_plan.specs.declared.context.ContextPlan.{ContextPlan}
 use Rattle.kernel_layout.specs.Plans.{plan_of}
 use Rattle.kernel_layout.specs.Skips.{skip_of}
 use Rattle.kernel_layout.specs.Sought.{known_of}
@@ -63,13 +65,15 @@ kind_named name = first_of (scheduler_kind name) (first_of (interrupt_kind name)
 abbrev pub kinds_of : TraceMetaModel → List EventKind
 kinds_of meta = map kind_named meta.declared.event_names
 
--- the kind of each event name, for each event how many bits of it may be passed over, whether no type looks into the headers of events, which names of fields are those that kinds are told by, and for each event the plan by which its fields are read
+-- the kind of each event name, for each event how many bits of it may be passed over, whether no type looks into the headers of events, which names of fields are those that kinds are told by, for each event the plan by which its fields are read, for each type the plan by which contexts of it are read, and whether no type looks into packets' contexts
 pub record LayoutModel : Type 0 where
   pub kinds : List EventKind
   pub skips : List (Option ℕ)
   pub lone : Bool
   pub known : List (Option Sought)
   pub plans : List (Option EventPlan)
+  pub contexts : List (Option ContextPlan)
+  pub lone_contexts : Bool
 
 abbrev pub plans_of : TraceMetaModel → List (Option EventPlan)
 plans_of meta = map (λ e. plan_of meta.table (kinds_of meta) e.1) meta.declared.events
@@ -79,4 +83,4 @@ skips_of meta = map (λ e. skip_of (kinds_of meta) (sizes_of meta.table) (plan_o
 
 -- what is decided once for all events of a trace
 abbrev pub layout_of : TraceMetaModel → LayoutModel
-layout_of meta = record { kinds = kinds_of meta; skips = skips_of meta; lone = headers_are_lone meta.table; known = known_of meta.table.names; plans = plans_of meta }
+layout_of meta = record { kinds = kinds_of meta; skips = skips_of meta; lone = headers_are_lone meta.table; known = known_of meta.table.names; plans = plans_of meta; contexts = context_plans meta.table; lone_contexts = contexts_are_lone meta.table }

@@ -1,8 +1,9 @@
 //! The kinds of a trace's event names, and what is known beforehand of how its events are read.
 ghost use Rattle.std.specs.Prelude.{◌≡◌, true, IfOk, IfSome, map};
 ghost use Rattle.std.specs.Option.{option_copied};
+ghost use Rattle.read_plan.specs.Contexts.{AreContextPlans};
 ghost use Rattle.read_plan.specs.FixedSizes.{AreSkips};
-ghost use Rattle.read_plan.specs.Lone.{IsLone, headers_are_lone};
+ghost use Rattle.read_plan.specs.Lone.{HasLoneContexts, IsLone, headers_are_lone};
 ghost use Rattle.kernel_layout.specs.Plans.{IsPlan, plan_at, plan_of};
 ghost use Rattle.kernel_layout.specs.Skips.{kind_at, needs_fields, skip_of};
 ghost use Rattle.kernel_layout.specs.Tracepoints.{kinds_of, layout_of, plans_of, skips_of};
@@ -11,15 +12,19 @@ use crate::known::known_of;
 use crate::plan::{EventPlan, plan_of};
 use crate::sought::Sought;
 use crate::tracepoint::kind_named;
-use read_plan::{FixedSize, fixed_sizes, headers_are_lone, size_at};
+use read_plan::{
+    ContextPlan, FixedSize, KnownContexts, context_plans, contexts_are_lone, fixed_sizes,
+    headers_are_lone, size_at,
+};
+use sqlite_items::Boxed;
 use std::alloc::Global;
 use std::marker::Model;
 use trace_types::{EventKind, OutOfMemory};
 use type_table::{EventParts, TraceMeta};
 
 /// The kind of each event name of a trace, how many bits of each event may be passed over, whether any type looks into the
-/// headers of events, which names of fields are those that kinds are told by, and by which plans events are read, decided
-/// once. Contracts see the lists and that answer.
+/// headers of events, which names of fields are those that kinds are told by, by which plans events and packets' contexts are
+/// read, and whether any type looks into contexts, decided once. Contracts see the lists and these answers.
 #[derive(Debug, Drop)]
 pub struct Layout {
     kinds: Vec<EventKind>,
@@ -27,6 +32,8 @@ pub struct Layout {
     lone: bool,
     known: Vec<Option<Sought>>,
     plans: Vec<Option<EventPlan>>,
+    contexts: Vec<Option<Boxed<ContextPlan>>>,
+    lone_contexts: bool,
 }
 
 impl Model for Layout {
@@ -34,7 +41,7 @@ impl Model for Layout {
 
     ghost Value = { LayoutModel };
 
-    ghost view = { λ l. record { kinds = l.kinds.items; skips = l.skips.items; lone = l.lone; known = l.known.items; plans = l.plans.items } };
+    ghost view = { λ l. record { kinds = l.kinds.items; skips = l.skips.items; lone = l.lone; known = l.known.items; plans = l.plans.items; contexts = l.contexts.items; lone_contexts = l.lone_contexts } };
 }
 
 impl Layout {
@@ -48,12 +55,16 @@ impl Layout {
         let skips = skips_of(alloc, meta, kinds.as_slice(), plans.as_slice())?;
         let lone = headers_are_lone(meta.table())?;
         let known = known_of(alloc, meta.table())?;
+        let contexts = context_plans(alloc, meta.table())?;
+        let lone_contexts = contexts_are_lone(meta.table())?;
         Ok(Layout {
             kinds,
             skips,
             lone,
             known,
             plans,
+            contexts,
+            lone_contexts,
         })
     }
 
@@ -78,6 +89,20 @@ impl Layout {
     {
         let _ = meta;
         self.lone
+    }
+
+    /// The plans by which packets' contexts are read, and whether no type of the trace looks into contexts.
+    #[tactic(auto, using(read_plan::proofs::Contexts::are_context_plans, read_plan::proofs::LoneReads::lone_contexts))]
+    pub fn contexts(&self, meta: &TraceMeta) -> KnownContexts<'_>
+        requires { self.now ≡ layout_of meta.now }
+        ensures plans { AreContextPlans meta.now.table result.plans.now }
+        ensures lone { result.lone ≡ true → HasLoneContexts meta.now.table }
+    {
+        meta.is_sound();
+        KnownContexts {
+            plans: self.contexts.as_slice(),
+            lone: self.lone_contexts,
+        }
     }
 
     /// For each name of a field, by its number, the one that it counts as of those that kinds are told by.

@@ -8,5 +8,8 @@ pub mod AlikePieces
 pub mod AlikeEvents
 pub mod StandardFacts
 pub mod PassedOver
+pub mod Alone
 pub mod PlannedHeads
 pub mod Repeats
+pub mod LoneContexts
+pub mod ToldHeads

@@ -5,7 +5,7 @@ use Rattle.type_table.specs.PerScope.{with_scope}
 use Rattle.type_table.specs.declared.declared.EventParts.{EventParts}
 use Rattle.type_table.specs.declared.declared.EventId.{EventId}
 use Rattle.type_table.specs.TraceMetas.{TraceMetaModel, same_event}
-use Rattle.type_table.specs.declared.meta.ScopeName.TheVariants.{EventContext, EventHeader, StreamContext}
+use Rattle.type_table.specs.declared.meta.ScopeName.TheVariants.{EventHeader}
 use Rattle.ctf_fields.specs.declared.error.FieldError.{FieldError}
 use Rattle.ctf_fields.specs.declared.field.Field.{Field}
 use Rattle.ctf_fields.specs.Fields.{Scopes, number_of}
@@ -19,36 +19,17 @@ use Rattle.trace_types.specs.declared.cause.Cause.{Cause}
 use Rattle.packet_decoder.specs.declared.events.EventHead.{EventHead}
 use Rattle.packet_decoder.specs.declared.times.Timestamp.{Timestamp}
 use Rattle.packet_decoder.specs.EventReaders.{HeadToldAs, IsHeadReadAs, NamedAs, PlanFits, is_bare}
-use Rattle.packet_decoder.specs.Events.{PacketModel, as_result, cause_of, event_at, event_body, event_by, event_fields, event_head, event_of, from_of, head_by, scope_at}
+use Rattle.packet_decoder.specs.Events.{PacketModel, as_result, cause_of, event_at, event_body, event_by, event_head, event_of, from_of, head_by, scope_at}
 use Rattle.packet_decoder.specs.PacketHeads.{and_then}
+use Rattle.packet_decoder.proofs.Alone.{IsUnseen, body_alone}
 use Rattle.packet_decoder.specs.Times.{timestamp_in}
 use Rattle.packet_decoder.specs.Values.{id_in, number_named}
 
 -- ---- what stands after a header that no type looks into
 
-after : {A B : Type 0} (x : Result A Cause) (f g : A → Result B Cause) → ((a : A) → f a ≡ g a) → and_then x f ≡ and_then x g
-after (Ok a) f g same = same a
-after (Err cause) f g same = refl
-
-scope_alone : (w : PacketModel) (s : Scopes) (h : Option Field) (ty : Option ℕ) (at : ℕ) → IsLone w.meta.table → scope_at w (with_scope EventHeader h s) ty at ≡ scope_at w s ty at
-scope_alone w s h None at lone = refl
-scope_alone w s h (Some ty) at lone = ap (λ r. as_result (as_read Some r)) (lone w.bytes w.end s h ty at)
-
-fields_alone : (w : PacketModel) (s : Scopes) (h x : Option Field) (parts : EventParts) (at : ℕ) → IsLone w.meta.table
-    → event_fields w (with_scope StreamContext x (with_scope EventHeader h s)) parts at ≡ event_fields w (with_scope StreamContext x s) parts at
-unfolding event_fields
-fields_alone w s h x parts at lone =
-    ap (λ r. and_then r (λ y. scope_at w (with_event y.0 (with_scope EventHeader h (with_scope StreamContext x s))) parts.fields y.1)) (scope_alone w (with_scope StreamContext x s) h parts.context at lone)
-    ∙ after (scope_at w (with_scope StreamContext x s) parts.context at) _ _ (λ y. scope_alone w (with_event y.0 (with_scope StreamContext x s)) h parts.fields y.1 lone)
-  where
-    with_event : Option Field → Scopes → Scopes
-    with_event c s = with_scope EventContext c s
-
-body_alone : (w : PacketModel) (s : Scopes) (h : Option Field) (parts : EventParts) (at : ℕ) → IsLone w.meta.table → event_body w (with_scope EventHeader h s) parts at ≡ event_body w s parts at
-unfolding event_body
-body_alone w s h parts at lone =
-    ap (λ r. and_then r (λ x. event_fields w (with_scope StreamContext x.0 (with_scope EventHeader h s)) parts x.1)) (scope_alone w s h w.parts.event_context at lone)
-    ∙ after (scope_at w s w.parts.event_context at) _ _ (λ x. fields_alone w s h x.0 parts x.1 lone)
+module _ (w : PacketModel) (h : Option Field) (lone : IsLone w.meta.table) where
+  unseen : IsUnseen w (with_scope EventHeader h)
+  unseen = record { reads = λ s ty at. lone w.bytes w.end s h ty at; stream = λ x s. refl; event = λ x s. refl }
 
 -- what stands after a header is read alike, whatever was kept of it
 pub body_same : (w : PacketModel) (s : Scopes) (whole head : EventHead) → IsHeadReadAs w.meta.table whole head → event_body w (with_scope EventHeader head.header s) head.parts head.at ≡ event_body w (with_scope EventHeader whole.header s) whole.parts whole.at
@@ -57,7 +38,7 @@ body_same w s whole head read =
     ∙ ap (λ at. event_body w (with_scope EventHeader head.header s) whole.parts at) read.at
     ∙ elim read.header [
       | inl same ↦ ap (λ h. event_body w (with_scope EventHeader h s) whole.parts whole.at) same
-      | inr lone ↦ body_alone w s head.header whole.parts whole.at lone ∙ sym (body_alone w s whole.header whole.parts whole.at lone)
+      | inr lone ↦ body_alone w (with_scope EventHeader head.header) (unseen w head.header lone) s whole.parts whole.at ∙ sym (body_alone w (with_scope EventHeader whole.header) (unseen w whole.header lone) s whole.parts whole.at)
     ]
 
 -- ---- headers by their plan

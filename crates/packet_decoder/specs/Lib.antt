@@ -5,3 +5,4 @@ pub mod Times
 pub mod Values
 pub mod EventReaders
 pub mod Packets
+pub mod ToldHeads

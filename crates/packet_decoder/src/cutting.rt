@@ -2,13 +2,16 @@
 ghost use Rattle.std.specs.Prelude.{◌≡◌, ◌≤◌, ◌<◌, ◌+◌, ◌*◌, ◌^◌, IfNone, IfOk, IfSome, drop, length};
 ghost use Rattle.packet_decoder.specs.PacketHeads.{Answers};
 ghost use Rattle.packet_decoder.specs.Packets.{packets_in};
-ghost use Rattle.packet_decoder.specs.Pieces.{AllLieIn, LiesIn, packet_at, pieces, right_sizes, sizes, span_of};
+ghost use Rattle.packet_decoder.specs.Pieces.{AllLieIn, LiesIn, packet_at, pieces, right_sizes, sizes};
+ghost use Rattle.packet_decoder.specs.ToldHeads.{span_told};
+ghost use Rattle.read_plan.specs.Contexts.{AreContextPlans};
 
 use crate::failure::Failure;
-use crate::packet_head::{PacketHead, read_packet_head};
+use crate::packet_head::{ToldPacketHead, tell_packet_head};
 use crate::piece::{PacketSpan, Piece};
-use crate::values::{below_32, counter_in};
-use ctf_fields::{below_64, number_named, value_named};
+use crate::values::{below_32, counter_in, value_of};
+use ctf_fields::below_64;
+use read_plan::KnownContexts;
 use sqlite_items::Items;
 use std::alloc::Global;
 use trace_types::{Cause, OutOfMemory};
@@ -21,21 +24,27 @@ pub fn cut(alloc: Global, meta: &TraceMeta, file: &[u8]) -> Result<Items<Piece>,
     ensures pieces { IfOk result (λ found. found ≡ pieces meta.now file.now) }
     ensures inside { IfOk result (λ found. AllLieIn file.now found) }
 {
-    match cut_within(alloc, meta, file, u64::MAX)? {
+    let known = KnownContexts {
+        plans: &[],
+        lone: false,
+    };
+    match cut_within(alloc, meta, known, file, u64::MAX)? {
         Some(found) => Ok(found),
         None => Err(OutOfMemory),
     }
 }
 
 /// The pieces of a stream file, and none where more than `most` packets are among them: of those no more than `most` are
-/// kept.
+/// kept. Contexts are read by their plans where `known` has them.
 pub fn cut_within(
     alloc: Global,
     meta: &TraceMeta,
+    known: KnownContexts<'_>,
     file: &[u8],
     most: u64,
 ) -> Result<Option<Items<Piece>>, OutOfMemory>
-    requires { length file.now ≤ 2 ^ 60 }
+    requires file { length file.now ≤ 2 ^ 60 }
+    requires plans { AreContextPlans meta.now.table known.plans.now }
     ensures pieces { IfOk result (λ r. IfSome r (λ found. found ≡ pieces meta.now file.now)) }
     ensures inside { IfOk result (λ r. IfSome r (λ found. AllLieIn file.now found)) }
     ensures within { IfOk result (λ r. IfSome r (λ found. packets_in (pieces meta.now file.now) ≤ most)) }
@@ -44,7 +53,7 @@ pub fn cut_within(
     let mut found = Items::new(alloc);
     let mut offset = 0;
     while offset < file.len() as u64 {
-        match packet_at(alloc, meta, offset, bytes_from(file, offset)) {
+        match packet_at(alloc, meta, known, offset, bytes_from(file, offset)) {
             Ok(span) => {
                 if found.len() as u64 >= most {
                     return Ok(None);
@@ -73,48 +82,49 @@ pub fn bytes_from(file: &[u8], offset: u64) -> &[u8]
 }
 
 // The packet that these bytes begin with, which lie at this offset in a file.
-#[tactic(auto, unfolding(crate::specs::Pieces::packet_at))]
+#[tactic(auto, using(crate::proofs::ToldHeads::cut_told), unfolding(crate::specs::Pieces::packet_at))]
 fn packet_at(
     alloc: Global,
     meta: &TraceMeta,
+    known: KnownContexts<'_>,
     offset: u64,
     rest: &[u8],
 ) -> Result<PacketSpan, Failure>
-    requires { length rest.now ≤ 2 ^ 60 }
+    requires rest { length rest.now ≤ 2 ^ 60 }
+    requires plans { AreContextPlans meta.now.table known.plans.now }
     ensures answers { Answers (packet_at meta.now offset rest.now) result }
     ensures within { IfOk result (λ span. (1 ≤ span.bytes) × (span.bytes ≤ length rest.now) × (span.content_bits ≤ 8 * span.bytes) × (span.start_bit ≤ span.content_bits) × (span.offset ≡ offset)) }
 {
-    let packet_head = read_packet_head(alloc, meta, rest)?;
-    span_of(meta.table(), offset, 8 * rest.len() as u64, &packet_head)
+    let told = tell_packet_head(alloc, meta, known, rest)?;
+    span_of(meta.table(), offset, 8 * rest.len() as u64, &told)
 }
 
 // A packet with this head, at this offset in a file of which so many bits are left.
-#[tactic(auto, unfolding(crate::specs::Pieces::span_of))]
 fn span_of(
     table: &Table,
     offset: u64,
     left: u64,
-    packet_head: &PacketHead,
+    told: &ToldPacketHead,
 ) -> Result<PacketSpan, Failure>
-    ensures answers { Answers (span_of table.now offset left packet_head.now) result }
+    ensures answers { Answers (span_told table.now offset left told.now) result }
     ensures within { IfOk result (λ span. (1 ≤ span.bytes) × (8 * span.bytes ≤ left) × (span.content_bits ≤ 8 * span.bytes) × (span.start_bit ≤ span.content_bits) × (span.offset ≡ offset)) }
 {
-    let context = packet_head.scopes.packet_context.as_ref();
-    let packet = value_named(table, b"packet_size", context);
-    let content = value_named(table, b"content_size", context);
-    let Some((bytes, content_bits)) = sizes(left, packet_head.start, packet, content) else {
+    let numbers = told.numbers;
+    let packet = value_of(numbers.packet_size);
+    let content = value_of(numbers.content_size);
+    let Some((bytes, content_bits)) = sizes(left, told.start, packet, content) else {
         return Err(Failure::Refused(Cause::BadSize));
     };
     Ok(PacketSpan {
         offset,
         bytes,
-        start_bit: packet_head.start,
+        start_bit: told.start,
         content_bits,
-        stream: packet_head.stream,
-        begin: below_64(value_named(table, b"timestamp_begin", context)).unwrap_or(0),
-        cpu: below_32(value_named(table, b"cpu_id", context)).unwrap_or(0),
-        seq: counter_in(table, number_named(table, b"packet_seq_num", context)),
-        discarded: counter_in(table, number_named(table, b"events_discarded", context)),
+        stream: told.stream,
+        begin: below_64(value_of(numbers.timestamp_begin)).unwrap_or(0),
+        cpu: below_32(value_of(numbers.cpu_id)).unwrap_or(0),
+        seq: counter_in(table, numbers.packet_seq_num),
+        discarded: counter_in(table, numbers.events_discarded),
     })
 }
 

@@ -4,7 +4,8 @@ ghost use Rattle.packet_decoder.specs.Events.{as_packet, decoded};
 ghost use Rattle.packet_decoder.specs.Pieces.{LiesIn};
 ghost use Rattle.packet_decoder.specs.EventReaders.{IsReadAs, PlanFits, and_before, events_left, planned_header, refusal};
 ghost use Rattle.read_plan.specs.FixedSizes.{AreSkips};
-ghost use Rattle.read_plan.specs.Lone.{IsLone};
+ghost use Rattle.read_plan.specs.Contexts.{AreContextPlans};
+ghost use Rattle.read_plan.specs.Lone.{HasLoneContexts, IsLone};
 ghost use Rattle.ctf_fields.specs.Leaves.{IsSpan};
 ghost use Rattle.ctf_fields.specs.declared.raw.RawEvent.{RawEvent};
 ghost use Rattle.packet_decoder.specs.declared.failure.Failure.TheVariants as failure;
@@ -14,11 +15,11 @@ ghost use Rattle.trace_types.specs.declared.cause.Cause.{Cause};
 use crate::cutting::bytes_from;
 use crate::events::{Cursor, Packet, ReadEvent, read_event, recycle_fields};
 use crate::failure::Failure;
-use crate::packet_head::read_packet_head;
+use crate::packet_head::open_packet_head;
 use crate::passing::pass_rest;
 use crate::piece::PacketSpan;
 use ctf_fields::{BitSpan, Field, RawEvent, Scopes, Scratch};
-use read_plan::{HeaderPlan, header_plan};
+use read_plan::{HeaderPlan, KnownContexts, header_plan};
 use std::alloc::Global;
 use std::marker::Model;
 use trace_types::OutOfMemory;
@@ -53,7 +54,6 @@ impl<'a> Model for EventReader<'a> {
 
 impl<'a> EventReader<'a> {
     /// Before the first event of a packet of a file.
-    #[tactic(auto, unfolding(crate::specs::Events::decoded, crate::specs::Events::packet_events))]
     pub fn open(
         alloc: Global,
         meta: &'a TraceMeta,
@@ -67,8 +67,33 @@ impl<'a> EventReader<'a> {
         ensures within { IfOk result (λ r. r.within.meta ≡ meta.now) }
         ensures refused { (cause : Cause) → result ≡ Err (failure.Refused cause) → decoded meta.now file.now span.now ≡ packet.Refused cause }
     {
+        let known = KnownContexts {
+            plans: &[],
+            lone: false,
+        };
+        EventReader::open_known(alloc, meta, known, file, span)
+    }
+
+    /// The same. The packet's context is read by its plan, and its fields aren't kept, where `known` allows that.
+    #[tactic(auto, unfolding(crate::specs::Events::decoded, crate::specs::Events::packet_events))]
+    pub fn open_known(
+        alloc: Global,
+        meta: &'a TraceMeta,
+        known: KnownContexts<'_>,
+        file: &'a [u8],
+        span: &PacketSpan,
+    ) -> Result<EventReader<'a>, Failure>
+        requires file { length file.now ≤ 2 ^ 60 }
+        requires span { LiesIn file.now span.now }
+        requires plans { AreContextPlans meta.now.table known.plans.now }
+        requires lone { known.lone ≡ true → HasLoneContexts meta.now.table }
+        ensures opened { IfOk result (λ r. decoded meta.now file.now span.now ≡ as_packet (events_left r)) }
+        ensures first { IfOk result (λ r. r.read ≡ 0) }
+        ensures within { IfOk result (λ r. r.within.meta ≡ meta.now) }
+        ensures refused { (cause : Cause) → result ≡ Err (failure.Refused cause) → decoded meta.now file.now span.now ≡ packet.Refused cause }
+    {
         let rest = bytes_from(file, span.offset);
-        let packet_head = read_packet_head(alloc, meta, rest)?;
+        let packet_head = open_packet_head(alloc, meta, known, rest)?;
         Ok(EventReader {
             packet: Packet {
                 meta,

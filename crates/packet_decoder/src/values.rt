@@ -3,11 +3,20 @@ ghost use Rattle.std.specs.Prelude.{◌≡◌, Some};
 ghost use Rattle.std.specs.Option.{option_copied};
 ghost use Rattle.ctf_fields.specs.Fields.{number_of};
 ghost use Rattle.ctf_fields.specs.Values.{below_if_any};
+ghost use Rattle.packet_decoder.specs.ToldHeads.{value_of};
 ghost use Rattle.packet_decoder.specs.Values.{are_bytes, counter_in, uuid_matches, id_in, is_byte, magic_matches};
 
 use crate::piece::Counter;
 use ctf_fields::{Field, below, below_64, integer_type};
 use type_table::Table;
+
+/// The value of a number whose type is known.
+pub fn value_of(number: Option<(i128, u32)>) -> Option<i128>
+    ensures { result ≡ value_of number }
+{
+    let (value, _) = number?;
+    Some(value)
+}
 
 /// A number that 32 bits hold.
 pub fn below_32(value: Option<i128>) -> Option<u32>

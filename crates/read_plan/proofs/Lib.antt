@@ -1,7 +1,9 @@
+pub mod Contexts
 pub mod Leading
 pub mod LoneReads
 pub mod Passing
 pub mod Planned
+pub mod Plans
 pub mod Rows
 pub mod Taken
 pub mod Values

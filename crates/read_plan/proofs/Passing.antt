@@ -1,5 +1,5 @@
 -- Types of one size take as many bits wherever they begin at a whole byte.
-use Rattle.std.proofs.Common.{◌≡◌, ◌∙◌, ℕ, ℤ, zero, suc, ◌+◌, ◌-◌, ◌*◌, ◌%◌, ◌<◌, ◌≤◌, ◌&&◌, max, ◌⊎◌, inl, inr, length-append, add-one, Bool, true, false, nat_eq, nat_le, nat_lt, List, [], ◌∷◌, ◌++◌, length, Option, Some, None, slice_get, if◌then◌else◌, refl, sym, ap, subst, arith}
+use Rattle.std.proofs.Common.{◌≡◌, ◌∙◌, ℕ, ℤ, zero, suc, ◌+◌, ◌-◌, ◌*◌, ◌%◌, ◌<◌, ◌≤◌, ◌&&◌, max, ◌⊎◌, inl, inr, length-append, add-one, Bool, true, false, nat_eq, nat_le, nat_lt, List, [], ◌∷◌, ◌++◌, length, Option, Some, None, slice_get, unwrap_or, if◌then◌else◌, refl, sym, ap, subst, arith}
 use Rattle.std.proofs.Math.Nat.{mod-mod_of_dvd, mod_self, zero-mod}
 use Rattle.std.proofs.lemmas.Nat.Gcd.{dvd_of_mod-eq-zero}
 use Rattle.std.proofs.lemmas.Bool.{eqb-true, leb-true, leb-false, ltb-true}
@@ -72,7 +72,7 @@ same_bits x at n m end e h = subst (λ k. Passes x at k end) e h
 
 -- ---- sizes that are there
 
-within : (bits depth : ℕ) (s : FixedSize) → size_within bits depth ≡ Some s → (bits ≡ s.bits) × (depth ≡ s.depth)
+pub within : (bits depth : ℕ) (s : FixedSize) → size_within bits depth ≡ Some s → (bits ≡ s.bits) × (depth ≡ s.depth)
 within bits depth s e = by (nat_lt bits 18446744073709551616) e
   where
     by : (b : Bool) → (if b then Some (record { bits = bits; depth = depth }) else None) ≡ Some s → (bits ≡ s.bits) × (depth ≡ s.depth)
@@ -94,14 +94,21 @@ pub some_of : {A B : Type 0} (f : A → Option B) (o : Option A) (b : B) → opt
 some_of f None b e = absurd (cc)
 some_of f (Some a) b e = (a, refl, e)
 
-if_so : {A : Type 0} (c : Bool) (o : Option A) (a : A) → (if c then o else None) ≡ Some a → (c ≡ true) × (o ≡ Some a)
+pub if_so : {A : Type 0} (c : Bool) (o : Option A) (a : A) → (if c then o else None) ≡ Some a → (c ≡ true) × (o ≡ Some a)
 if_so true o a e = (refl, e)
 if_so false o a e = absurd (cc)
 
-both : (a b : Bool) → (a && b) ≡ true → (a ≡ true) × (b ≡ true)
+pub both : (a b : Bool) → (a && b) ≡ true → (a ≡ true) × (b ≡ true)
 both true true e = (refl, refl)
 both true false e = absurd (cc)
 both false b e = absurd (cc)
+
+-- what stands at an index of a longer list stood there before, or is the last
+pub at_last : {A : Type 0} (os : List (Option A)) (one : Option A) (n : ℕ) (a : A) → unwrap_or (slice_get (os ++ one ∷ []) n) None ≡ Some a → (unwrap_or (slice_get os n) None ≡ Some a) ⊎ ((n ≡ length os) × (one ≡ Some a))
+at_last [] one zero a e = inr (refl, e)
+at_last [] one (suc n) a e = absurd (cc)
+at_last (o ∷ os) one zero a e = inl e
+at_last (o ∷ os) one (suc n) a e = elim (at_last os one n a e) [ inl h ↦ inl h | inr h ↦ inr (ap suc h.0, h.1) ]
 
 -- ---- the size of a type
 
@@ -271,12 +278,6 @@ module _ (from : SourceModel) where
   by_type sizes all ty s (Some meta.Str) is e = as_number sizes ty s e
   by_type sizes all ty s (Some (meta.Variant tag fs)) is e = as_number sizes ty s e
   by_type sizes all ty s (Some (meta.Sequence count item)) is e = as_number sizes ty s e
-
-  at_last : (sizes : List (Option FixedSize)) (one : Option FixedSize) (ty : ℕ) (s : FixedSize) → size_at (sizes ++ one ∷ []) ty ≡ Some s → (size_at sizes ty ≡ Some s) ⊎ ((ty ≡ length sizes) × (one ≡ Some s))
-  at_last [] one zero s e = inr (refl, e)
-  at_last [] one (suc ty) s e = absurd (cc)
-  at_last (x ∷ sizes) one zero s e = inl e
-  at_last (x ∷ sizes) one (suc ty) s e = elim (at_last sizes one ty s e) [ inl h ↦ inl h | inr h ↦ inr (ap suc h.0, h.1) ]
 
   so_many : (n : ℕ) → length (sizes_of_first from.table n) ≡ n
   unfolding sizes_of_first

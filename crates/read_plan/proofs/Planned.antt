@@ -37,7 +37,7 @@ last_struct : (d : ℕ) (names : List Text) (text : Text) (ms : List Member) →
 unfolding last_in roll-Field out-Field denote.Hole.Carrier.roll
 last_struct d names text ms = ap (last_by (last_in d names text) names text) (out-roll-Field (Field-F.Struct ms))
 
-first_struct : (d : ℕ) (names : List Text) (text : Text) (ms : List Member) → first_in (suc d) names text (field.Struct ms) ≡ first_member (first_in d names text) names text ms
+pub first_struct : (d : ℕ) (names : List Text) (text : Text) (ms : List Member) → first_in (suc d) names text (field.Struct ms) ≡ first_member (first_in d names text) names text ms
 unfolding first_in roll-Field out-Field denote.Hole.Carrier.roll
 first_struct d names text ms = ap (first_by (first_in d names text) names text) (out-roll-Field (Field-F.Struct ms))
 

@@ -1,3 +1,4 @@
+pub mod Contexts
 pub mod FixedSizes
 pub mod Headers
 pub mod Lone

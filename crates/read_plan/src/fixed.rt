@@ -69,7 +69,8 @@ fn sized(table: &Table, sizes: &[Option<FixedSize>], index: u32) -> Option<Fixed
     }
 }
 
-fn number_size(integer: Integer) -> Option<FixedSize>
+/// The size of an integer of whole bytes.
+pub fn number_size(integer: Integer) -> Option<FixedSize>
     requires { 1 ≤ integer.align }
     ensures { result ≡ number_size integer }
 {
@@ -132,7 +133,8 @@ fn array_size(
     one_around(repeated(count, size_at(sizes, item)?)?)
 }
 
-fn joined(a: FixedSize, b: FixedSize) -> Option<FixedSize>
+/// What two sizes take one after the other, where 64 bits hold it.
+pub fn joined(a: FixedSize, b: FixedSize) -> Option<FixedSize>
     ensures { result ≡ joined a b }
 {
     let bits = a.bits.checked_add(b.bits)?;

@@ -8,6 +8,8 @@ mod leaf_fields;
 #[cfg(test)]
 mod stream_cases;
 #[cfg(test)]
+mod stream_contexts;
+#[cfg(test)]
 mod stream_fields;
 #[cfg(test)]
 mod stream_headers;

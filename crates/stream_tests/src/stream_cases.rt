@@ -3,8 +3,9 @@ ghost use Rattle.std.specs.Prelude.{◌≤◌, ◌^◌, length};
 ghost use Rattle.packet_decoder.specs.Pieces.{AllLieIn, LiesIn};
 
 use ctf_fields::{Field, Member, RawEvent};
+use kernel_layout::Layout;
 use metadata_tests::declared::declared;
-use packet_decoder::{Counter, PacketResult, PacketSpan, Piece, cut, decode};
+use packet_decoder::{Counter, PacketResult, PacketSpan, Piece, cut, cut_within, decode};
 use std::alloc::{AllocGlobal, Global};
 use std::io::{self, Write};
 use std::process::Abort;
@@ -51,6 +52,8 @@ fn is_cut_by<R: AllocGlobal + Abort>(
     assert!(rt; file.len() <= 65_536);
     let found = text_of(rt.alloc(), meta, file)?;
     assert_eq!(rt; std::str::from_utf8(&found), Ok(text));
+    let planned = planned_text(rt.alloc(), meta, file)?;
+    assert_eq!(rt; std::str::from_utf8(&planned), Ok(text));
     Ok(())
 }
 
@@ -59,6 +62,18 @@ fn text_of(alloc: Global, meta: &TraceMeta, file: &[u8]) -> Result<Vec<u8>, Fail
 {
     let pieces = cut(alloc, meta, file)?;
     text_of_pieces(alloc, meta, file, pieces.as_slice())
+}
+
+// The same, where contexts are read by their plans.
+fn planned_text(alloc: Global, meta: &TraceMeta, file: &[u8]) -> Result<Vec<u8>, Fail>
+    requires { length file.now ≤ 65536 }
+{
+    let layout = Layout::new(alloc, meta)?;
+    let mut out = Vec::new(alloc);
+    if let Some(pieces) = cut_within(alloc, meta, layout.contexts(meta), file, u64::MAX)? {
+        write_pieces(alloc, meta, file, pieces.as_slice(), &mut out)?;
+    }
+    Ok(out)
 }
 
 fn text_of_pieces(

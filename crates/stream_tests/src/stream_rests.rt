@@ -72,7 +72,7 @@ fn passed(
     requires file { length file.now ≤ 65536 }
     requires span { LiesIn file.now span.now }
 {
-    let mut reader = EventReader::open(alloc, meta, file, span)?;
+    let mut reader = EventReader::open_known(alloc, meta, layout.contexts(meta), file, span)?;
     reader.plan_headers(alloc, layout.lone(meta))?;
     reader.skip_rest(alloc, layout.skips(meta))
 }

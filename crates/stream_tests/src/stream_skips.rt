@@ -107,7 +107,7 @@ fn events_in(
     requires file { length file.now ≤ 65536 }
     requires span { LiesIn file.now span.now }
 {
-    let mut reader = EventReader::open(alloc, meta, file, span)?;
+    let mut reader = EventReader::open_known(alloc, meta, layout.contexts(meta), file, span)?;
     let mut events = Vec::new(alloc);
     reader.plan_headers(alloc, layout.lone(meta))?;
     while let Some(read) = reader.next_event_of(alloc, layout.skips(meta))? {
@@ -161,4 +161,19 @@ fn fields_that_are_read(rt: HostRuntime) -> Result<(), Fail> {
         &[0x90, 0, 0x90, 0, 1, 5, 0, 0, 7, 0, 0, 0, 2, 6, 8, 3, 7, 9],
         "5 0 0 { n=7 }\n6 0 1 { s={ irq=8 } }\n7 0 2 { }\n",
     )
+}
+
+// The length of an event's field stands in the packet's context, whose fields are kept then.
+#[test]
+fn a_length_in_the_context(rt: HostRuntime) -> Result<(), Fail> {
+    let meta = meta_of(
+        &rt,
+        b"typealias integer { size = 8; } := u8; typealias integer { size = 16; } := u16;
+        trace { byte_order = le; };
+        stream { packet.context := struct { u16 content_size; u16 packet_size; u8 n; };
+            event.header := struct { u8 timestamp; }; };
+        event { name = a; fields := struct { u8 x[stream.packet.context.n]; }; };",
+    )?;
+    let packet = [0x40, 0, 0x40, 0, 2, 5, 0xAA, 0xBB];
+    are_passed_over_by(&rt, &meta, &packet, "5 0 0 { x=[ 170 187 ] }\n")
 }
