@@ -1,11 +1,11 @@
 -- The first field of a name is the earlier of the first ones of its two spellings.
 use Rattle.std.proofs.Common.{◌≡◌, ◌∙◌, ℕ, suc, ◌<◌, ◌||◌, min, Bool, true, false, nat_eq, List, [], ◌∷◌, Option, Some, None, length, option_and_then, option_map, slice_get, ap, ap₂, refl, sym, arith, if◌then◌else◌}
-use Rattle.type_table.specs.Names.{AreDistinct, is_number, other_number}
+use Rattle.type_table.specs.Names.{AreDistinct, other_number}
 use Rattle.type_table.specs.Table.{FieldNamesIn}
 use Rattle.type_table.specs.Types.{Text}
 use Rattle.type_table.specs.VariantFields.{first_of}
 use Rattle.type_table.specs.declared.meta.FieldMeta.{FieldMeta}
-use Rattle.type_table.proofs.Spellings.{first_or_later, same_numbers}
+use Rattle.type_table.proofs.Spellings.{first_or_later, is_number, same_numbers}
 use Rattle.ctf_fields.specs.Choice.{earlier, first_named}
 
 -- the field at an index, if there is one

@@ -1,4 +1,5 @@
-//! The field of a variant that is chosen.
+//! The field of a variant that is chosen. Among a few fields the one of a label's name is found by comparing
+//! texts, among more by the numbers of the name's two spellings.
 ghost use Rattle.std.specs.Prelude.{◌≡◌, ◌<◌, length, option_and_then, slice_get, true, IfOk};
 ghost use Rattle.std.specs.Option.{option_copied};
 ghost use Rattle.ctf_fields.specs.Choice.{by_label, by_labels, chosen, earlier, first_named, labels_in};
@@ -6,10 +7,11 @@ ghost use Rattle.type_table.specs.Labels.{holding, holds};
 ghost use Rattle.type_table.specs.Table.{FieldNamesIn, LabelNamesIn};
 ghost use Rattle.type_table.specs.VariantFields.{first_of};
 
+use crate::names::is_same;
 use crate::source::Source;
 use std::alloc::Global;
 use trace_types::OutOfMemory;
-use type_table::{FieldMeta, LabelMeta, Table, TypeMeta, VariantFields};
+use type_table::{FEW_FIELDS, FieldMeta, LabelMeta, Table, TypeMeta, VariantFields};
 
 /// The field of a variant that the tag chooses, a number with the index of its type.
 #[tactic(auto, using(crate::proofs::Holding::by_holding))]
@@ -71,7 +73,8 @@ fn by_label(
     }
 }
 
-// The first field of a name, by the numbers of its two spellings.
+// The first field of a name, among more than a few by the numbers of its two spellings. Among a few, comparing texts costs less
+// than looking up the other spelling.
 #[tactic(auto, using(crate::proofs::TwoSpellings::first_by_numbers))]
 fn first_named(
     alloc: Global,
@@ -83,9 +86,25 @@ fn first_named(
     requires fields { FieldNamesIn (length table.now.names) fields.now }
     ensures { IfOk result (λ field. field ≡ first_named table.now.names name fields.now) }
 {
+    let all = fields.as_slice();
+    if all.len() <= FEW_FIELDS {
+        return Ok(first_alike(table, name, all));
+    }
     let other = table.other_number(alloc, name)?;
     let index = earlier(fields.first_of(name), first_of_any(fields, other));
-    Ok(field_at(fields.as_slice(), index))
+    Ok(field_at(all, index))
+}
+
+// The first field of a name, by the names' texts, one field after the other.
+fn first_alike(table: &Table, name: u32, fields: &[FieldMeta]) -> Option<FieldMeta>
+    ensures { result ≡ first_named table.now.names name fields.now }
+{
+    for field in fields {
+        if is_same(table, name, field.name) {
+            return Some(*field);
+        }
+    }
+    None
 }
 
 // The index of the first field of a number, if there is one.

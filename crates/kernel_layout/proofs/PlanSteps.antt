@@ -1,18 +1,18 @@
 -- The fields of a plan, one after the other: how each is placed, and that it can be read within the plan's bits.
-use Rattle.std.proofs.Common.{◌≡◌, ◌∙◌, ℕ, zero, suc, ◌+◌, ◌%◌, ◌≤◌, ◌&&◌, nat_eq, nat_le, nat_lt, Bool, true, false, List, [], ◌∷◌, ◌++◌, length, Option, Some, None, option_map, slice_get, if◌then◌else◌, refl, sym, ap, subst, arith}
+use Rattle.std.proofs.Common.{◌≡◌, ◌∙◌, ℕ, ◌+◌, ◌%◌, ◌≤◌, ◌&&◌, nat_eq, nat_le, nat_lt, Bool, true, false, List, [], ◌∷◌, ◌++◌, length, Option, Some, None, option_map, slice_get, if◌then◌else◌, refl, sym, ap, subst, arith}
 use Rattle.std.proofs.lemmas.Bool.{eqb-false}
 use Rattle.std.specs.List.{AllByRecursion}
 use Rattle.std.specs.Option.{option_and_then}
-use Rattle.type_table.specs.Table.{AreSound, IsSound, IsSoundTable, Table}
+use Rattle.type_table.specs.Table.{IsSoundTable, Table}
 use Rattle.type_table.specs.declared.integer.Integer.{Integer}
 use Rattle.type_table.specs.declared.meta.FieldMeta.{FieldMeta}
 use Rattle.type_table.specs.declared.meta.TypeMeta.{TypeMeta}
 use Rattle.type_table.specs.declared.meta.TypeMeta.TheVariants as meta
 use Rattle.ctf_fields.specs.Leaves.{IsReadable}
-use Rattle.ctf_fields.specs.Reading.{align_at, integer_of, integer_type}
-use Rattle.ctf_fields.proofs.Integers.{same_type, type_number}
+use Rattle.ctf_fields.specs.Reading.{align_at, integer_type}
 use Rattle.read_plan.specs.FixedSizes.{within_byte}
 use Rattle.read_plan.proofs.Passing.{some_of}
+use Rattle.read_plan.proofs.Readable.{readable}
 use Rattle.read_plan.proofs.Rows.{and_true, if_not, if_so}
 use Rattle.kernel_layout.specs.Plans.{IsPlaced, IsPlan, end_behind, form_bits, form_by, form_of, integer_in, is_address, no_fields, numbers_of, placed, plan_by, plan_from, plan_of_type, planned, sought_at, whole_integer, with_bits, with_field, within_64}
 use Rattle.kernel_layout.specs.declared.plan.TheConstants.{MAX_PLANNED_FIELDS}
@@ -114,42 +114,7 @@ is_form t ty f e = by (slice_get t.types ty) refl e
     by (Some (meta.Variant tag fs)) is e = is_number t ty f e
     by (Some (meta.Sequence count item)) is e = is_number t ty f e
 
--- ---- integers of a sound table can be read
-
-sound_at : (ms : List TypeMeta) (n : ℕ) (m : TypeMeta) → AreSound ms → slice_get ms n ≡ Some m → IsSound m
-sound_at [] n m h e = absurd (cc)
-sound_at (x ∷ ms) zero m h e = let same : x ≡ m = cc in subst IsSound same h.0
-sound_at (x ∷ ms) (suc n) m h e = sound_at ms n m h.1 e
-
-integer_sound : (o : Option TypeMeta) (i : Integer) → ((m : TypeMeta) → o ≡ Some m → IsSound m) → integer_of o ≡ Some i → IsReadable i
-integer_sound (Some (meta.Integer integer)) i h e =
-    let sound = h (meta.Integer integer) refl in
-    let same : integer ≡ i = cc in
-    subst IsReadable same (record { some = sound.0; wide = sound.1; aligned = sound.2 })
-integer_sound None i h e = absurd (cc)
-integer_sound (Some (meta.Struct align fs)) i h e = absurd (cc)
-integer_sound (Some (meta.Enum base labels)) i h e = absurd (cc)
-integer_sound (Some meta.Str) i h e = absurd (cc)
-integer_sound (Some (meta.Variant tag fs)) i h e = absurd (cc)
-integer_sound (Some (meta.Array count item)) i h e = absurd (cc)
-integer_sound (Some (meta.Sequence count item)) i h e = absurd (cc)
-
-readable : (t : Table) → IsSoundTable t → (ty : ℕ) (i : Integer) → integer_type t ty ≡ Some i → IsReadable i
-readable t sound ty i e = by (slice_get t.types ty) refl (sym (same_type t ty (slice_get t.types ty) refl) ∙ e)
-  where
-    at : (n : ℕ) (m : TypeMeta) → slice_get t.types n ≡ Some m → IsSound m
-    at n m is = sound_at t.types n m sound.sound is
-
-    by : (m : Option TypeMeta) → slice_get t.types ty ≡ m → type_number t m ≡ Some i → IsReadable i
-    by (Some (meta.Enum base labels)) is e = integer_sound (slice_get t.types base) i (at base) e
-    by None is e = absurd (cc)
-    by (Some (meta.Integer integer)) is e = integer_sound (Some (meta.Integer integer)) i (λ m same. at ty m (is ∙ same)) e
-    by (Some (meta.Struct align fs)) is e = absurd (cc)
-    by (Some meta.Str) is e = absurd (cc)
-    by (Some (meta.Variant tag fs)) is e = absurd (cc)
-    by (Some (meta.Array count item)) is e = absurd (cc)
-    by (Some (meta.Sequence count item)) is e = absurd (cc)
-
+-- the integer of a form can be read
 form_readable : (t : Table) → IsSoundTable t → (ty : ℕ) (f : FieldForm) → IsForm t ty f → IsReadable (integer_in f)
 form_readable t sound ty f (a_number i is bytes aligned) = readable t sound ty i is
 form_readable t sound ty f (an_array i count item there is bytes aligned items) = readable t sound item i is

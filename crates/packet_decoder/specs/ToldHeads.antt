@@ -1,10 +1,10 @@
 -- What stands before the events of a packet, where a context is read without keeping its fields (contexts are those of CTF 1.8, section 5.2; that they are read so is this project's own).
-use Rattle.std.specs.Prelude.{◌≡◌, ℕ, ℤ, ◌%◌, ◌^◌, List, Option, Some, None, Result, Ok, Err, option_map, unwrap_or}
+use Rattle.std.specs.Prelude.{◌≡◌, ℕ, ℤ, ◌%◌, ◌^◌, nat_eq, List, Option, Some, None, Result, Ok, Err, option_and_then, option_map, unwrap_or, if◌then◌else◌}
 use Rattle.type_table.specs.Table.{Table}
 use Rattle.type_table.specs.TraceMetas.{TraceMetaModel}
 use Rattle.ctf_fields.specs.declared.field.Field.{Field}
 use Rattle.ctf_fields.specs.declared.raw.RawEvent.{RawEvent}
-use Rattle.read_plan.specs.Contexts.{IsContextPlan, IsReadableContext, context_numbers}
+use Rattle.read_plan.specs.Contexts.{IsContextPlan, IsReadableContext, context_numbers, plan_at}
 use Rattle.read_plan.specs.declared.context.ContextPlan.{ContextPlan}
 use Rattle.packet_decoder.specs.Events.{packet_events}
 use Rattle.packet_decoder.specs.PacketHeads.{and_then, context_read, packet_head, with_context}
@@ -29,6 +29,10 @@ HeaderJudgedAs meta rest answer (Err failure.OutOfMemory) = Unit {0}
 abbrev pub ContextFits : Table → Option ℕ → ℕ → ContextPlan → Type 0
 ContextFits t None at plan = ⊥
 ContextFits t (Some ty) at plan = (at % 8 ≡ 0) × IsReadableContext plan × IsContextPlan t ty plan
+
+-- the plan by which a context of this type is read that begins at this bit, where it has one and this is a whole byte (this project's own)
+abbrev pub plan_from : List (Option ContextPlan) → Option ℕ → ℕ → Option ContextPlan
+plan_from plans ty at = if nat_eq (at % 8) 0 then option_and_then (plan_at plans) ty else None
 
 -- the whole head of which these parts were told, with the fields of its context
 abbrev pub whole_head : ToldPacketHead → Option Field → PacketHead

@@ -24,10 +24,7 @@ pub fn cut(alloc: Global, meta: &TraceMeta, file: &[u8]) -> Result<Items<Piece>,
     ensures pieces { IfOk result (λ found. found ≡ pieces meta.now file.now) }
     ensures inside { IfOk result (λ found. AllLieIn file.now found) }
 {
-    let known = KnownContexts {
-        plans: &[],
-        lone: false,
-    };
+    let known = KnownContexts::nothing();
     match cut_within(alloc, meta, known, file, u64::MAX)? {
         Some(found) => Ok(found),
         None => Err(OutOfMemory),

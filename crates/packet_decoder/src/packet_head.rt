@@ -6,7 +6,7 @@ ghost use Rattle.ctf_fields.specs.Reading.{Gives};
 ghost use Rattle.read_plan.specs.Contexts.{AreContextPlans};
 ghost use Rattle.read_plan.specs.Lone.{HasLoneContexts};
 ghost use Rattle.packet_decoder.specs.PacketHeads.{Answers, context_read, header_judged, packet_head, read_scope, stream_of};
-ghost use Rattle.packet_decoder.specs.ToldHeads.{ContextFits, HeadOpenedAs, HeaderJudgedAs, PacketToldAs};
+ghost use Rattle.packet_decoder.specs.ToldHeads.{ContextFits, HeadOpenedAs, HeaderJudgedAs, PacketToldAs, plan_from};
 ghost use Rattle.packet_decoder.specs.declared.piece.PacketSpan.{PacketSpan};
 
 use crate::failure::Failure;
@@ -227,7 +227,8 @@ fn plan_at<'a>(
     at: u64,
 ) -> Option<&'a ContextPlan>
     requires { AreContextPlans meta.now.table known.plans.now }
-    ensures { IfSome result (λ plan. ContextFits meta.now.table ty at plan.now) }
+    ensures is { option_copied result ≡ plan_from known.entry.plans.now ty at }
+    ensures fits { IfSome result (λ plan. ContextFits meta.now.table ty at plan.now) }
 {
     let _ = meta;
     if at % 8 != 0 {

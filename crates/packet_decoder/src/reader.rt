@@ -67,10 +67,7 @@ impl<'a> EventReader<'a> {
         ensures within { IfOk result (λ r. r.within.meta ≡ meta.now) }
         ensures refused { (cause : Cause) → result ≡ Err (failure.Refused cause) → decoded meta.now file.now span.now ≡ packet.Refused cause }
     {
-        let known = KnownContexts {
-            plans: &[],
-            lone: false,
-        };
+        let known = KnownContexts::nothing();
         EventReader::open_known(alloc, meta, known, file, span)
     }
 

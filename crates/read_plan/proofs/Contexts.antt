@@ -4,17 +4,16 @@ use Rattle.std.proofs.lemmas.Bool.{eqb-true, leb-true, leb-false}
 use Rattle.std.specs.Option.{option_and_then}
 use Rattle.bit_reader.specs.Bits.{integer}
 use Rattle.type_table.specs.Names.{same_name}
-use Rattle.type_table.specs.Table.{IsSound, IsSoundTable, Table, name_at}
+use Rattle.type_table.specs.Table.{IsSoundTable, Table, name_at}
 use Rattle.type_table.specs.Types.{Text}
 use Rattle.type_table.specs.declared.integer.Integer.{Integer}
 use Rattle.type_table.specs.declared.meta.FieldMeta.{FieldMeta}
 use Rattle.type_table.specs.declared.meta.TypeMeta.{TypeMeta}
 use Rattle.type_table.specs.declared.meta.TypeMeta.TheVariants as meta
-use Rattle.type_table.proofs.Tables.{sound_at}
 use Rattle.ctf_fields.specs.Fields.{Scopes, fields_of, number_in, number_of, or_else, with_member}
-use Rattle.ctf_fields.specs.Leaves.{IsReadable, integer_at, integer_read, value_of}
+use Rattle.ctf_fields.specs.Leaves.{integer_at, integer_read, value_of}
 use Rattle.ctf_fields.specs.Named.{first_in, first_member}
-use Rattle.ctf_fields.specs.Reading.{Fails, Got, MAX_TYPE_DEPTH, Reads, SourceModel, as_read, integer_of, integer_type, leaf, read, read_member, read_members, read_number, scope_read, then_read}
+use Rattle.ctf_fields.specs.Reading.{Fails, Got, MAX_TYPE_DEPTH, Reads, SourceModel, as_read, integer_type, leaf, read, read_member, read_members, read_number, scope_read, then_read}
 use Rattle.ctf_fields.specs.Values.{number_named}
 use Rattle.ctf_fields.specs.declared.error.FieldError.TheVariants.{ShortContent, NoVariant, TooLong, OutOfMemory}
 use Rattle.ctf_fields.specs.declared.field.Field.{Field}
@@ -24,7 +23,7 @@ use Rattle.ctf_fields.specs.declared.field.Field.TheViews.{out-Field, out-roll-F
 use Rattle.ctf_fields.specs.declared.field.Member.{Member}
 use Rattle.ctf_fields.specs.declared.open_struct.OpenStruct.{OpenStruct}
 use Rattle.ctf_fields.proofs.Chosen.{none_first}
-use Rattle.ctf_fields.proofs.Integers.{number_read, same_type, type_number}
+use Rattle.ctf_fields.proofs.Integers.{number_read, same_type}
 use Rattle.ctf_fields.proofs.Steps.{one_deeper}
 use Rattle.read_plan.specs.Contexts.{AreContextPlans, IsContextPlan, IsPlaced, IsReadableContext, TellsNumbers, context_numbers, context_plan, context_plans, context_read, leaf_by, leaf_size, leaves_size, number_there, numbers_there, placed, placed_number, plan_at, plan_of_fields, planned_context, plans_of_first, tells_size, with_leaf}
 use Rattle.read_plan.specs.FixedSizes.{no_size, number_size, within_byte}
@@ -34,39 +33,9 @@ use Rattle.read_plan.specs.declared.fixed.FixedSize.{FixedSize}
 use Rattle.read_plan.proofs.Passing.{at_last, both, if_so, reach, some_of, there}
 use Rattle.read_plan.proofs.Planned.{first_struct}
 use Rattle.read_plan.proofs.Plans.{bits_of, one_leaf}
+use Rattle.read_plan.proofs.Readable.{readable}
 use Rattle.read_plan.proofs.Rows.{by_struct}
 use Rattle.read_plan.proofs.Values.{opened}
-
--- ---- integers of a sound table can be read
-
-integer_sound : (o : Option TypeMeta) (i : Integer) → ((m : TypeMeta) → o ≡ Some m → IsSound m) → integer_of o ≡ Some i → IsReadable i
-integer_sound (Some (meta.Integer integer)) i h e =
-    let sound = h (meta.Integer integer) refl in
-    let same : integer ≡ i = cc in
-    subst IsReadable same (record { some = sound.0; wide = sound.1; aligned = sound.2 })
-integer_sound None i h e = absurd (cc)
-integer_sound (Some (meta.Struct align fs)) i h e = absurd (cc)
-integer_sound (Some (meta.Enum base labels)) i h e = absurd (cc)
-integer_sound (Some meta.Str) i h e = absurd (cc)
-integer_sound (Some (meta.Variant tag fs)) i h e = absurd (cc)
-integer_sound (Some (meta.Array count item)) i h e = absurd (cc)
-integer_sound (Some (meta.Sequence count item)) i h e = absurd (cc)
-
-readable : (t : Table) → IsSoundTable t → (ty : ℕ) (i : Integer) → integer_type t ty ≡ Some i → IsReadable i
-readable t sound ty i e = by (slice_get t.types ty) refl (sym (same_type t ty (slice_get t.types ty) refl) ∙ e)
-  where
-    at : (n : ℕ) (m : TypeMeta) → slice_get t.types n ≡ Some m → IsSound m
-    at n m is = sound_at t.types n m sound.sound is
-
-    by : (m : Option TypeMeta) → slice_get t.types ty ≡ m → type_number t m ≡ Some i → IsReadable i
-    by (Some (meta.Enum base labels)) is e = integer_sound (slice_get t.types base) i (at base) e
-    by None is e = absurd (cc)
-    by (Some (meta.Integer integer)) is e = integer_sound (Some (meta.Integer integer)) i (λ m same. at ty m (is ∙ same)) e
-    by (Some (meta.Struct align fs)) is e = absurd (cc)
-    by (Some meta.Str) is e = absurd (cc)
-    by (Some (meta.Variant tag fs)) is e = absurd (cc)
-    by (Some (meta.Array count item)) is e = absurd (cc)
-    by (Some (meta.Sequence count item)) is e = absurd (cc)
 
 -- ---- fields that a plan counts
 

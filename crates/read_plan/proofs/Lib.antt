@@ -4,6 +4,7 @@ pub mod LoneReads
 pub mod Passing
 pub mod Planned
 pub mod Plans
+pub mod Readable
 pub mod Rows
 pub mod Taken
 pub mod Values

@@ -3,7 +3,7 @@ ghost use Rattle.std.specs.Prelude.{◌≡◌, ◌+◌, ◌≤◌, ◌^◌, is_s
 ghost use Rattle.std.specs.Option.{option_copied};
 ghost use Rattle.type_table.specs.declared.meta.TypeMeta.TheVariants as meta;
 ghost use Rattle.ctf_fields.specs.Leaves.{IsReadable, IsSpan};
-ghost use Rattle.read_plan.specs.Contexts.{IsReadableContext, as_numbers, context_numbers, context_plan, context_plans, context_read, leaf_size, leaves_size, number_there, numbers_there, placed, placed_number, plan_at, plan_of_fields, planned_context, tells_size, with_leaf};
+ghost use Rattle.read_plan.specs.Contexts.{AreContextPlans, IsReadableContext, as_numbers, context_numbers, context_plan, context_plans, context_read, leaf_size, leaves_size, number_there, numbers_there, placed, placed_number, plan_at, plan_of_fields, planned_context, tells_size, with_leaf};
 ghost use Rattle.read_plan.specs.FixedSizes.{no_size};
 
 use crate::fixed::{FixedSize, joined, number_size, within_byte};
@@ -66,8 +66,10 @@ pub fn context_plans(
     alloc: Global,
     table: &Table,
 ) -> Result<Vec<Option<Boxed<ContextPlan>>>, OutOfMemory>
-    ensures { IfOk result (λ plans. plans.items ≡ context_plans table.now) }
+    ensures is { IfOk result (λ plans. plans.items ≡ context_plans table.now) }
+    ensures fit { IfOk result (λ plans. AreContextPlans table.now plans.items) }
 {
+    table.is_sound();
     if table.len() > u32::MAX as usize {
         return Err(OutOfMemory);
     }

@@ -1,4 +1,6 @@
 //! What is known beforehand of the contexts of a trace's packets.
+ghost use Rattle.std.specs.Prelude.{◌≡◌, false, []};
+
 use crate::context::ContextPlan;
 use sqlite_items::Boxed;
 
@@ -8,4 +10,17 @@ use sqlite_items::Boxed;
 pub struct KnownContexts<'a> {
     pub plans: &'a [Option<Boxed<ContextPlan>>],
     pub lone: bool,
+}
+
+impl KnownContexts<'_> {
+    /// Nothing: no plan, and contexts may be looked into.
+    pub fn nothing() -> KnownContexts<'static>
+        ensures plans { result.plans.now ≡ [] }
+        ensures lone { result.lone ≡ false }
+    {
+        KnownContexts {
+            plans: &[],
+            lone: false,
+        }
+    }
 }

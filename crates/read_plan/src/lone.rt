@@ -57,12 +57,5 @@ fn looks_into(ty: &TypeMeta, scope: ScopeName) -> bool
 fn begins_at(scope: ScopeName, first: Option<ScopeName>) -> bool
     ensures { result ≡ begins_at scope first }
 {
-    match scope {
-        ScopeName::PacketHeader => matches!(first, Some(ScopeName::PacketHeader)),
-        ScopeName::PacketContext => matches!(first, Some(ScopeName::PacketContext)),
-        ScopeName::EventHeader => matches!(first, Some(ScopeName::EventHeader)),
-        ScopeName::StreamContext => matches!(first, Some(ScopeName::StreamContext)),
-        ScopeName::EventContext => matches!(first, Some(ScopeName::EventContext)),
-        ScopeName::EventFields => matches!(first, Some(ScopeName::EventFields)),
-    }
+    first == Some(scope)
 }

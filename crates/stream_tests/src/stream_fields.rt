@@ -116,6 +116,30 @@ fn chosen_fields(rt: HostRuntime) -> Result<(), Fail> {
     )
 }
 
+// Among more than a few fields, in another order than their labels, each is found as well.
+#[test]
+fn chosen_among_many(rt: HostRuntime) -> Result<(), Fail> {
+    all_are_cut(
+        &rt,
+        "typealias integer { size = 8; } := byte;
+        trace { byte_order = le; };
+        stream { event.header := struct { byte timestamp; }; };
+        event { name = a; fields := struct {
+            enum : byte { f0, f1, f2, f3, f4, f5, f6, f7, f8, f9, f10, f11, f12, f13, f14, f15, f16 } t;
+            variant <t> {
+                byte f16; byte f15; byte f14; byte f13; byte f12; byte f11; byte f10; byte f9; byte f8;
+                byte f7; byte f6; byte f5; byte f4; byte _f3; byte f2; byte f1; byte f0;
+            } v;
+        }; };",
+        &[
+            (&[5, 0, 9], "packet 0 3\n5 0 0 { t=0 v=f0:9 }\n"),
+            (&[5, 16, 9], "packet 0 3\n5 0 0 { t=16 v=f16:9 }\n"),
+            (&[5, 3, 9], "packet 0 3\n5 0 0 { t=3 v=_f3:9 }\n"),
+            (&[5, 17, 9], "packet 0 3 refused NoVariant\n"),
+        ],
+    )
+}
+
 // Strings end at a zero byte; arrays of arrays; bits of both orders.
 #[test]
 fn strings_arrays_and_bits(rt: HostRuntime) -> Result<(), Fail> {

@@ -2,7 +2,7 @@
 use Rattle.std.proofs.Common.{◌≡◌, ◌∙◌, refl, List, ◌∷◌, Bool, true, false, ◌||◌, Option, None, [], ◌++◌, ap}
 use Rattle.type_table.specs.Types.{Text, Ty, Fields, Whole, Named, Str, Struct, Variant, Array, Sequence, No, Field, has_paths, any_has_paths}
 use Rattle.type_scope.specs.BlockContexts.{BlockContext}
-use Rattle.type_scope.specs.TypeScopes.{Frame, TypeScope, Typed, Good, and_then, with_frames, inner_in, field_in, with_field, ended}
+use Rattle.type_scope.specs.TypeScopes.{Frame, TypeScope, Good, and_then, with_frames, with_field, ended}
 use Rattle.type_scope.specs.Rechecked.{inner_name, rechecked, rechecked_all}
 
 along : {A B : Type 0} (f : A → B) (x y : A) → x ≡ y → f x ≡ f y

@@ -1,5 +1,5 @@
 -- Where the field path of a tag or a length leads (CTF 1.8, section 7.3.2).
-use Rattle.std.specs.Prelude.{ℕ, Bool, true, false, ◌&&◌, List, [], ◌∷◌, ◌++◌, reverse, Option, Some, None, nat_eq, nat_lt, if◌then◌else◌}
+use Rattle.std.specs.Prelude.{ℕ, Bool, true, ◌&&◌, List, [], ◌∷◌, ◌++◌, reverse, Option, Some, None, nat_eq, nat_lt, if◌then◌else◌}
 use Rattle.tsdl_parser.specs.declared.tree.TypeTree.{TypeTree}
 use Rattle.type_table.specs.declared.cause.MetaItemCause.TheVariants.{BadReference}
 use Rattle.type_table.specs.declared.meta.ScopeName.{ScopeName}

@@ -9,4 +9,4 @@ pub mod Sums
 pub mod Tables
 pub mod Texts
 pub mod Trees
-pub mod RisingNames
+pub mod FirstFields

@@ -4,9 +4,19 @@ use Rattle.std.specs.Cmp.Lexicographic.{bytes_decides}
 use Rattle.std.specs.List.{AllByRecursion, IsDistinct, position_or_len}
 use Rattle.std.proofs.lemmas.Bool.{cond-true, eq-eqb, eqb-true, false_from_ne_true, lt-ltb, ltb-true, ne_eqb}
 use Rattle.tsdl_parser.specs.Symbols.{is_text}
-use Rattle.type_table.specs.Names.{AreDistinct, bare, is_number, is_the, is_underscored, other_number, other_spelling, same_name}
+use Rattle.type_table.specs.Names.{AreDistinct, bare, is_underscored, other_number, other_spelling, same_name}
 use Rattle.type_table.specs.Table.{name_at}
 use Rattle.type_table.specs.Types.{Text}
+
+-- a text, if there is one, is this text
+abbrev pub is_the : Option Text → Text → Bool
+is_the None name = false
+is_the (Some other) name = is_text other name
+
+-- this is a number, if there is one (this project's own)
+abbrev pub is_number : Option ℕ → ℕ → Bool
+is_number None n = false
+is_number (Some m) n = nat_eq n m
 
 is_same : (a b : Text) → is_text a b ≡ true → a ≡ b
 is_same a b h = (bytes_decides a b).0 h

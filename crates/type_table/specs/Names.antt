@@ -1,5 +1,5 @@
 -- Names of fields and labels, and field paths to fields (CTF 1.8, section 7.3.2; that one underscore is left out is LTTng's use).
-use Rattle.std.specs.Prelude.{ℕ, Bool, false, List, [], ◌∷◌, ◌++◌, Option, Some, None, codes, nat_eq, ◌&&◌, if◌then◌else◌, option_map, option_and_then, position}
+use Rattle.std.specs.Prelude.{ℕ, Bool, false, List, [], ◌∷◌, ◌++◌, Option, Some, None, codes, ◌&&◌, if◌then◌else◌, option_map, option_and_then, position}
 use Rattle.std.specs.List.{IsDistinct}
 use Rattle.std.specs.Option.{option_map_or}
 use Rattle.tsdl_parser.specs.Symbols.{is_text}
@@ -29,16 +29,6 @@ other_spelling name = if is_underscored name then (if is_underscored (bare name)
 -- the number of the other spelling of a name, if it has one that is among the names (this project's own)
 abbrev pub other_number : List Text → ℕ → Option ℕ
 other_number names n = option_and_then (λ other. position (is_text other) names) (other_spelling (name_at names n))
-
--- a text, if there is one, is this text
-abbrev pub is_the : Option Text → Text → Bool
-is_the None name = false
-is_the (Some other) name = is_text other name
-
--- this is a number, if there is one (this project's own)
-abbrev pub is_number : Option ℕ → ℕ → Bool
-is_number None n = false
-is_number (Some m) n = nat_eq n m
 
 -- all names are different ones (this project's own)
 abbrev pub AreDistinct : List Text → Type 0

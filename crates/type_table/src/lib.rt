@@ -30,4 +30,4 @@ pub use scope::split_scope;
 pub use table::Table;
 pub use trace_meta::TraceMeta;
 pub use type_size::{MAX_NODES, TypeSize};
-pub use variant_fields::VariantFields;
+pub use variant_fields::{FEW_FIELDS, VariantFields};

@@ -56,13 +56,12 @@ pub fn meta_type_size(type_sizes: &[TypeSize], meta: &TypeMeta) -> Option<TypeSi
             })
         }
         TypeMeta::Variant { fields, .. } => {
-            let fields = fields.as_slice();
-            let sum = sum_of(type_sizes, fields)?;
+            let sum = sum_of(type_sizes, fields.as_slice())?;
             around(Inside {
                 align: 1,
                 depth: sum.depth,
                 nodes: sum.nodes,
-                may_be_empty: fields.is_empty() || sum.any_empty,
+                may_be_empty: fields.as_slice().is_empty() || sum.any_empty,
                 has_paths: true,
             })
         }

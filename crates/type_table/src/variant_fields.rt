@@ -1,41 +1,52 @@
 //! The fields of a variant, among which those of a name are found.
-ghost use Rattle.std.specs.Prelude.{◌≡◌, ◌≤◌, None, length, nat_lt};
-ghost use Rattle.type_table.specs.VariantFields.{NamesBelow, NamesRise, first_of, is_past, names_rise_past};
+ghost use Rattle.std.specs.Prelude.{◌≡◌, IfOk};
+ghost use Rattle.type_table.specs.VariantFields.{AreFirsts, first_of};
 
 use crate::meta::FieldMeta;
+use indexmap::IndexMap;
 use sqlite_items::Items;
+use std::alloc::Global;
 use std::marker::Model;
+use trace_types::OutOfMemory;
+
+/// Among so many fields one is found without a map.
+pub const FEW_FIELDS: usize = 16;
 
 /// The fields of a variant, in the order in which they were declared. Contracts see them as a list.
 #[derive(Debug, Drop)]
 pub struct VariantFields {
     fields: Items<FieldMeta>,
-    // Whether each field's name has a greater number than the one before it.
-    rise: bool,
+    // Where there are more than a few fields, the index of the first of each name.
+    firsts: IndexMap<u32, usize>,
 }
 
 impl Model for VariantFields {
-    ghost use Rattle.std.specs.Prelude.{◌≡◌, List, true};
-    ghost use Rattle.type_table.specs.VariantFields.{NamesRise};
+    ghost use Rattle.std.specs.Prelude.{List};
+    ghost use Rattle.type_table.specs.VariantFields.{AreNoted};
     ghost use Rattle.type_table.specs.declared.meta.FieldMeta.{FieldMeta};
 
     ghost Value = { List FieldMeta };
 
     ghost view = { λ s. s.fields };
 
-    ghost invariant = { λ s. s.rise ≡ true → NamesRise s.fields };
+    ghost invariant = { λ s. AreNoted s.firsts s.fields };
 }
 
 impl VariantFields {
-    /// The fields of a list. One pass finds out whether the numbers of their names rise.
-    pub fn from_items(items: Items<FieldMeta>) -> VariantFields
-        ensures { result ≡ items }
+    /// The fields of a list. Where there are more than a few, one pass notes the first of each name.
+    pub fn from_items(alloc: Global, items: Items<FieldMeta>) -> Result<VariantFields, OutOfMemory>
+        ensures { IfOk result (λ fields. fields ≡ items) }
     {
-        let rise = do_names_rise(items.as_slice());
-        VariantFields {
+        let fields = items.as_slice();
+        let firsts = if fields.len() > FEW_FIELDS {
+            firsts_of(alloc, fields)?
+        } else {
+            IndexMap::new(alloc)
+        };
+        Ok(VariantFields {
             fields: items,
-            rise,
-        }
+            firsts,
+        })
     }
 
     /// All fields.
@@ -45,65 +56,26 @@ impl VariantFields {
         self.fields.as_slice()
     }
 
-    /// The index of the first field whose name has a number: found by halving where the numbers rise, and else one after the other.
+    /// The index of the first field whose name has a number: from the map where there are more than a few, and else found one after the other.
     pub fn first_of(&self, name: u32) -> Option<usize>
         ensures { result ≡ first_of name self.now }
     {
         let fields = self.fields.as_slice();
-        if self.rise {
-            first_risen(fields, name)
+        if fields.len() > FEW_FIELDS {
+            self.firsts.get(&name).copied()
         } else {
             fields.iter().position(|field| field.name == name)
         }
     }
 }
 
-// Whether the numbers of the fields' names rise.
-fn do_names_rise(fields: &[FieldMeta]) -> bool
-    ensures { result ≡ names_rise_past None fields.now }
+// The index of the first field of each name.
+fn firsts_of(alloc: Global, fields: &[FieldMeta]) -> Result<IndexMap<u32, usize>, OutOfMemory>
+    ensures { IfOk result (λ firsts. AreFirsts firsts fields.now) }
 {
-    let mut past = None;
-    for field in fields {
-        if !is_past(past, field.name) {
-            return false;
-        }
-        past = Some(field.name);
+    let mut firsts = IndexMap::new(alloc);
+    for (index, field) in fields.iter().enumerate() {
+        firsts.entry(field.name)?.or_insert(index);
     }
-    true
-}
-
-// Whether a number is greater than another, if there is one.
-fn is_past(past: Option<u32>, name: u32) -> bool
-    ensures { result ≡ is_past past name }
-{
-    match past {
-        Some(past) => past < name,
-        None => true,
-    }
-}
-
-// The first field of a name, where the numbers rise: the first one that isn't below it, or none.
-fn first_risen(fields: &[FieldMeta], name: u32) -> Option<usize>
-    requires { NamesRise fields.now }
-    ensures { result ≡ first_of name fields.now }
-{
-    let passed = count_below(fields, name);
-    if passed < fields.len() && fields[passed].name == name {
-        Some(passed)
-    } else {
-        None
-    }
-}
-
-// How many fields, the first ones, have names of smaller numbers.
-fn count_below(fields: &[FieldMeta], name: u32) -> usize
-    requires { NamesRise fields.now }
-    ensures bound { result ≤ length fields.now }
-    ensures below { NamesBelow name fields.now result }
-{
-    fields.partition_point(
-        |field: &FieldMeta| -> bool
-            ensures { result ≡ nat_lt field.now.name name }
-        { field.name < name },
-    )
+    Ok(firsts)
 }

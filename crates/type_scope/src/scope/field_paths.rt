@@ -133,7 +133,7 @@ impl TypeScope {
         let fields = self.fields_inside(alloc, index)?;
         self.push(TypeMeta::Variant {
             tag,
-            fields: VariantFields::from_items(fields),
+            fields: VariantFields::from_items(alloc, fields)?,
         })
     }
 

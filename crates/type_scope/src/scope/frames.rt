@@ -78,7 +78,7 @@ impl TypeScope {
         };
         self.push(TypeMeta::Variant {
             tag,
-            fields: VariantFields::from_items(fields),
+            fields: VariantFields::from_items(alloc, fields)?,
         })
     }
 

@@ -1,4 +1,4 @@
-use Rattle.std.proofs.Common.{◌≡◌, ◌∙◌, ◌*◌, Ok, length, sym, ap}
+use Rattle.std.proofs.Common.{◌≡◌, ◌∙◌, ◌*◌, length, sym, ap}
 use Rattle.read_plan.specs.Contexts.{as_numbers, context_read}
 use Rattle.packet_decoder.proofs.ToldHeads.{head_fails, head_told}
 use Rattle.packet_decoder.proofs.packet_head.planned_head.Goals as goal

@@ -12,4 +12,4 @@ fields_inside-requires c = type_there _ c.args.index (subst (λ s. c.args.index 
 pub returns : goal.returns
 unfolding state
 returns c = gives_tagged (state c.args.self.now) (state c.reference.new.self) (state c.push.new.self) _ _ _ _ c.push.result c.in_ok-tag.ensures.stays (way_is _ _ _ _ c.in_ok-tag.ensures.field_path.1 c.in_ok-tag.ensures.field_path.2)
-    (ap (fields_at c.reference.new.self.table.names (trees c.reference.new.self.table)) c.from_items.ensures ∙ c.in_ok-fields.ensures.2 ∙ ap (λ s. fields_inside (tree_at s.types c.args.index)) c.in_ok-tag.ensures.stays) c.push.ensures
+    (ap (fields_at c.reference.new.self.table.names (trees c.reference.new.self.table)) c.in_ok-from_items.ensures ∙ c.in_ok-fields.ensures.2 ∙ ap (λ s. fields_inside (tree_at s.types c.args.index)) c.in_ok-tag.ensures.stays) c.push.ensures
