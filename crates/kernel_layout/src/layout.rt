@@ -1,9 +1,9 @@
 //! The kinds of a trace's event names, and what is known beforehand of how its events are read.
 ghost use Rattle.std.specs.Prelude.{◌≡◌, true, IfOk, IfSome, map};
 ghost use Rattle.std.specs.Option.{option_copied};
-ghost use Rattle.read_plan.specs.Contexts.{AreContextPlans};
+ghost use Rattle.read_plan.specs.Contexts.{AreContextPlans, context_plans};
 ghost use Rattle.read_plan.specs.FixedSizes.{AreSkips};
-ghost use Rattle.read_plan.specs.Lone.{HasLoneContexts, IsLone, headers_are_lone};
+ghost use Rattle.read_plan.specs.Lone.{HasLoneContexts, IsLone, contexts_are_lone, headers_are_lone};
 ghost use Rattle.kernel_layout.specs.Plans.{IsPlan, plan_at, plan_of};
 ghost use Rattle.kernel_layout.specs.Skips.{kind_at, needs_fields, skip_of};
 ghost use Rattle.kernel_layout.specs.Tracepoints.{kinds_of, layout_of, plans_of, skips_of};
@@ -95,6 +95,8 @@ impl Layout {
     #[tactic(auto, using(read_plan::proofs::Contexts::are_context_plans, read_plan::proofs::LoneReads::lone_contexts))]
     pub fn contexts(&self, meta: &TraceMeta) -> KnownContexts<'_>
         requires { self.now ≡ layout_of meta.now }
+        ensures is { result.plans.now ≡ context_plans meta.now.table }
+        ensures is_lone { result.lone ≡ contexts_are_lone meta.now.table }
         ensures plans { AreContextPlans meta.now.table result.plans.now }
         ensures lone { result.lone ≡ true → HasLoneContexts meta.now.table }
     {
