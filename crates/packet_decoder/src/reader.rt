@@ -178,21 +178,30 @@ impl<'a> EventReader<'a> {
         Ok(Some(read))
     }
 
-    /// Reads the packet to its end, and keeps no event. What `skips` says may be passed over is passed over.
-    pub fn skip_rest(&mut self, alloc: Global, skips: &[Option<u64>]) -> Result<(), Failure>
-        requires { AreSkips self.old.within.meta skips.now }
-        ensures accepted { OnOk result (refusal (events_left self.old) ≡ None) }
-        ensures refused { (cause : Cause) → result ≡ Err (failure.Refused cause) → refusal (events_left self.old) ≡ Some cause }
+    /// Reads the packet to its end, and keeps no event. What `skips` says may be passed over is passed over. The reader is
+    /// used up.
+    pub fn skip_rest(self, alloc: Global, skips: &[Option<u64>]) -> Result<(), Failure>
+        requires { AreSkips self.within.meta skips.now }
+        ensures accepted { OnOk result (refusal (events_left self.entry) ≡ None) }
+        ensures refused { (cause : Cause) → result ≡ Err (failure.Refused cause) → refusal (events_left self.entry) ≡ Some cause }
     {
+        let EventReader {
+            packet,
+            mut scopes,
+            mut scratch,
+            header,
+            cursor,
+            read,
+        } = self;
         pass_rest(
             alloc,
-            &self.packet,
-            &mut self.scopes,
-            &mut self.scratch,
-            self.header.as_ref(),
+            &packet,
+            &mut scopes,
+            &mut scratch,
+            header.as_ref(),
             skips,
-            self.cursor,
-            self.read,
+            cursor,
+            read,
         )
     }
 
