@@ -18,7 +18,7 @@ use Rattle.trace_types.specs.Ranges.{AreBytes, IsKind, IsRequested, IsSegKey, Is
 use Rattle.event_list.specs.Lines.{name_at}
 use Rattle.event_list.specs.Names.{with_number}
 use Rattle.event_list.specs.Written.{name_parsed, texts_in}
-use Rattle.tsdl_parser.specs.Symbols.{is_text}
+use Rattle.trace_types.specs.Texts.{is_text}
 use Rattle.trace_types.specs.declared.event_kind.EventKind.{EventKind}
 use Rattle.trace_types.specs.declared.event_kind.EventKind.TheVariants as event_kind
 use Rattle.kernel_layout.specs.Tracepoints.{call_kind, device_kind, first_of, interrupt_kind, kinds_of, scheduler_kind, kind_named}

@@ -5,7 +5,8 @@ use Rattle.std.specs.Cmp.Lexicographic.{bytes_decides}
 use Rattle.std.proofs.lemmas.List.Quantifiers.{all_pairs_push}
 use Rattle.std.proofs.lemmas.List.Elements.{Contains-get_or, Contains-append_left, Contains-push, Contains-push_cases}
 use Rattle.ht_outside.specs.Files.{ListsNames}
-use Rattle.ht_outside.specs.Stored.{is_at, files_in, same_bytes}
+use Rattle.trace_types.specs.Texts.{same_bytes}
+use Rattle.ht_outside.specs.Stored.{is_at, files_in}
 use Rattle.ht_outside.specs.declared.memory_store.StoredFile.{StoredFile}
 use Rattle.ht_outside.proofs.Places.{both_true}
 

@@ -4,7 +4,8 @@ use Rattle.std.proofs.lemmas.Bool.{ltb-true, ltb-false}
 use Rattle.std.specs.Cmp.Lexicographic.{bytes_decides}
 use Rattle.std.specs.List.{position, position_or_len}
 use Rattle.ht_outside.specs.Files.{bytes_of}
-use Rattle.ht_outside.specs.Stored.{is_at, files_in, same_bytes, Puts}
+use Rattle.trace_types.specs.Texts.{same_bytes}
+use Rattle.ht_outside.specs.Stored.{is_at, files_in, Puts}
 use Rattle.ht_outside.specs.declared.memory_store.StoredFile.{StoredFile}
 
 module _ {X : Type 0} (p : X → Bool) where

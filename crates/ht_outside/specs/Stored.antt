@@ -1,13 +1,9 @@
 -- What a store in memory holds.
-use Rattle.std.specs.Prelude.{◌≡◌, ℕ, Bool, ◌&&◌, List, [], ◌∷◌, Some, None, if◌then◌else◌, nat_eq}
-use Rattle.std.specs.Cmp.Lexicographic.{pointwise}
+use Rattle.std.specs.Prelude.{◌≡◌, ℕ, Bool, ◌&&◌, List, [], ◌∷◌, Some, None, if◌then◌else◌}
+use Rattle.trace_types.specs.Texts.{same_bytes}
 use Rattle.ht_outside.specs.Files.{Files}
 use Rattle.ht_outside.specs.declared.memory_store.StoredFile.{StoredFile}
 use Rattle.ht_outside.specs.declared.memory_store.MemoryStore.{MemoryStore}
-
--- the same bytes
-abbrev pub same_bytes : List ℕ → List ℕ → Bool
-same_bytes = pointwise nat_eq
 
 -- the file has this folder and name
 abbrev pub is_at : List ℕ → List ℕ → StoredFile → Bool

@@ -3,7 +3,7 @@ use Rattle.std.proofs.Common.{◌≡◌, ◌∙◌, ℕ, zero, suc, Bool, true, 
 use Rattle.std.specs.Cmp.Lexicographic.{bytes_decides}
 use Rattle.std.specs.List.{find}
 use Rattle.std.proofs.lemmas.Bool.{false_from_ne_true}
-use Rattle.tsdl_parser.specs.Symbols.{is_text}
+use Rattle.trace_types.specs.Texts.{is_text}
 use Rattle.type_table.specs.Names.{bare, same_name}
 use Rattle.type_table.specs.Table.{name_at}
 use Rattle.type_table.specs.Types.{Text}

@@ -1,7 +1,7 @@
 -- The kinds of events by the names of their tracepoints (the names are those of LTTng's kernel tracer; that these are told apart is this project's own).
 use Rattle.std.specs.Prelude.{ℕ, ◌||◌, Bool, List, codes, map, Option, Some, None, if◌then◌else◌}
 use Rattle.trace_types.specs.CallNames.{is_call_in, is_call_out}
-use Rattle.tsdl_parser.specs.Symbols.{is_text}
+use Rattle.trace_types.specs.Texts.{is_text}
 use Rattle.type_table.specs.Types.{Text}
 use Rattle.type_table.specs.TraceMetas.{TraceMetaModel}
 use Rattle.read_plan.specs.Contexts.{context_plans}

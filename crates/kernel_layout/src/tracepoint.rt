@@ -1,9 +1,9 @@
 //! The kinds of events by the names of their tracepoints.
 ghost use Rattle.std.specs.Prelude.{◌≡◌};
-ghost use Rattle.tsdl_parser.specs.Symbols.{is_text};
+ghost use Rattle.trace_types.specs.Texts.{is_text};
 ghost use Rattle.kernel_layout.specs.Tracepoints.{call_kind, device_kind, interrupt_kind, kind_named, scheduler_kind};
 
-use trace_types::{EventKind, is_call_in, is_call_out};
+use trace_types::{EventKind, is_call_in, is_call_out, is_text};
 
 /// The kind of the events of this name.
 pub fn kind_named(name: &[u8]) -> EventKind
@@ -80,13 +80,6 @@ fn device_kind(name: &[u8]) -> Option<EventKind>
     } else {
         None
     }
-}
-
-// Whether these bytes are that text.
-fn is_text(name: &[u8], text: &[u8]) -> bool
-    ensures { result ≡ is_text name.now text.now }
-{
-    name == text
 }
 
 fn call_kind(name: &[u8]) -> EventKind

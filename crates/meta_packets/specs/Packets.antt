@@ -1,6 +1,6 @@
 -- Metadata packets (CTF 1.8, section 7.1): a header of 37 bytes, the text, and padding.
 use Rattle.std.specs.Prelude.{◌≡◌, ◌≢◌, ◌⊎◌, ℕ, ◌+◌, ◌-◌, ◌*◌, ◌/◌, ◌%◌, ◌<◌, ◌≤◌, ◌==◌, ◌||◌, not, nat_lt, Bool, if◌then◌else◌, List, [], ◌∷◌, length, take, drop, slice_index, flat_map, Option, None, Some, codes}
-use Rattle.std.specs.Cmp.Lexicographic.{pointwise}
+use Rattle.trace_types.specs.Texts.{same_bytes}
 use Rattle.byteorder.specs.Endian.{big_number, little_number}
 use Rattle.trace_types.specs.declared.byte_order.ByteOrderKind.{ByteOrderKind}
 use Rattle.trace_types.specs.declared.byte_order.ByteOrderKind.TheVariants.{Big, Little}
@@ -36,9 +36,6 @@ is_coded packet = not (slice_index packet 32 == 0) || not (slice_index packet 33
 -- sizes are whole bytes; the content holds the header, the packet the content, and what is left the packet
 abbrev pub is_missized : ℕ → ℕ → ℕ → Bool
 is_missized content packet left = not (content % 8 == 0) || (not (packet % 8 == 0) || (nat_lt content (8 * HEADER) || (nat_lt packet content || nat_lt (8 * left) packet)))
-
-abbrev pub same_bytes : List ℕ → List ℕ → Bool
-same_bytes = pointwise (λ a b. a == b)
 
 -- the first check that what is left of a file fails as a packet of this byte order and uuid
 abbrev pub cause_of : ByteOrderKind → List ℕ → List ℕ → Option MetaPacketCause

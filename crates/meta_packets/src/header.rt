@@ -1,6 +1,7 @@
 //! The header of a metadata packet, and its checks.
 ghost use Rattle.std.specs.Prelude.{◌≡◌, ◌<◌, ◌≤◌, ◌%◌, length, take, drop, None, IfSome, IfNone, IsTrue};
-ghost use Rattle.meta_packets.specs.Packets.{MAGIC, HEADER, number, uuid_of, content_bits, packet_bits, is_coded, is_missized, same_bytes, cause_of, IsPackets, IsPlain};
+ghost use Rattle.trace_types.specs.Texts.{same_bytes};
+ghost use Rattle.meta_packets.specs.Packets.{MAGIC, HEADER, number, uuid_of, content_bits, packet_bits, is_coded, is_missized, cause_of, IsPackets, IsPlain};
 
 use byteorder::{BigEndian, ByteOrder, LittleEndian};
 use std::fmt;

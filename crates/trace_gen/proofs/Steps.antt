@@ -5,7 +5,8 @@ use Rattle.std.proofs.lemmas.Bool.{cases_lt}
 use Rattle.std.proofs.lemmas.List.{length-drop, take_all}
 use Rattle.std.specs.Fmt.{decimal}
 use Rattle.ht_outside.specs.Files.{Files}
-use Rattle.ht_outside.specs.Stored.{Puts, same_bytes}
+use Rattle.trace_types.specs.Texts.{same_bytes}
+use Rattle.ht_outside.specs.Stored.{Puts}
 use Rattle.trace_gen.specs.declared.events.MadeEvent.{MadeEvent}
 use Rattle.trace_gen.specs.Acts.{acts_of, round}
 use Rattle.trace_gen.specs.Events.{own}

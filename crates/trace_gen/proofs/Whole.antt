@@ -3,7 +3,7 @@ use Rattle.std.proofs.Common.{◌≡◌, ◌∙◌, ◌⊎◌, inl, inr, ℕ, ze
 use Rattle.std.proofs.lemmas.Bool.{cases_lt}
 use Rattle.std.specs.Cmp.Lexicographic.{bytes_decides}
 use Rattle.std.specs.Fmt.{decimal}
-use Rattle.ht_outside.specs.Stored.{same_bytes}
+use Rattle.trace_types.specs.Texts.{same_bytes}
 use Rattle.trace_types.proofs.Decimals.{same_decimal}
 use Rattle.trace_gen.specs.declared.events.MadeEvent.{MadeEvent}
 use Rattle.trace_gen.specs.Events.{own}

@@ -2,7 +2,7 @@
 use Rattle.std.specs.Prelude.{◌≡◌, ◌<◌, ◌⊎◌, IsSome, ℕ, zero, suc, ◌&&◌, if◌then◌else◌, List, None, Some, codes}
 use Rattle.std.specs.Fmt.{decimal}
 use Rattle.ht_outside.specs.Files.{Files}
-use Rattle.ht_outside.specs.Stored.{same_bytes}
+use Rattle.trace_types.specs.Texts.{same_bytes}
 use Rattle.trace_gen.specs.declared.events.MadeEvent.{MadeEvent}
 use Rattle.trace_gen.specs.Acts.{acts_of}
 use Rattle.trace_gen.specs.Events.{made, own, start}

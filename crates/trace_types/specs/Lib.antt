@@ -9,3 +9,4 @@ pub mod Fronts
 pub mod CallNames
 pub mod EventKinds
 pub mod Ranges
+pub mod Texts

@@ -8,7 +8,8 @@ use Rattle.tsdl_lex.specs.declared.token.TokenKind.TheVariants as kind
 use Rattle.tsdl_parser.specs.declared.symbol.Symbol.{Symbol}
 use Rattle.tsdl_parser.specs.declared.symbol.Symbol.TheVariants as s
 use Rattle.tsdl_parser.specs.contracts.symbol.Symbol.{the_type}
-use Rattle.tsdl_parser.specs.Symbols.{same, head, symbol_of, word_symbol, is_text}
+use Rattle.trace_types.specs.Texts.{is_text}
+use Rattle.tsdl_parser.specs.Symbols.{same, head, symbol_of, word_symbol}
 use Rattle.tsdl_parser.specs.Parsers.{Parser, Outcome, and_then, sees, after, expect, word_of, number_of, string_of, valued, word, number, string, name, if_seen, ◌<$>◌, pure}
 use Rattle.tsdl_parser.specs.Grammar.{Tokens, Text, Stands, IsWord, IsName, IsNumber, IsString}
 

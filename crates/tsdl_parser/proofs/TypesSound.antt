@@ -22,7 +22,8 @@ use Rattle.tsdl_parser.specs.declared.tree.EnumBase.TheVariants as base
 use Rattle.tsdl_parser.specs.declared.tree.Label.{Label}
 use Rattle.tsdl_parser.specs.declared.tree.Dim.{Dim}
 use Rattle.tsdl_parser.specs.declared.tree.Dim.TheVariants as dim
-use Rattle.tsdl_parser.specs.Symbols.{head, is_text}
+use Rattle.trace_types.specs.Texts.{is_text}
+use Rattle.tsdl_parser.specs.Symbols.{head}
 use Rattle.tsdl_parser.specs.Parsers.{Parser, and_then, sees, after, expect, word_of, word, number, name, if_seen, pure}
 use Rattle.tsdl_parser.specs.Reading.{words, path, attrs, enum_tree, ends, last_of, last_apart, enum_named_by, enum_named, dim_by, dim_of, dims_from, dims, is_align, sees_align, align, tag, is_some, struct_body, struct_tree, variant_tree, type_by, type_tree, typed_by, typed, field, fields}
 use Rattle.tsdl_parser.specs.Grammar.{Tokens, Text, Stands, IsWord, IsName, IsNumber, Part, Each, Maybe, Behind, Between, IsPath, IsWords, IsAttrs, IsEnum, IsDim, AreDims, IsAlign, IsBody, IsStruct, IsVariant, IsType, integer, float, string_type, struct, variant, enum, words_type, IsField, IsFieldsWithin}

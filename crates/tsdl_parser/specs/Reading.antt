@@ -27,7 +27,7 @@ use Rattle.tsdl_parser.specs.declared.tree.BlockKind.{BlockKind}
 use Rattle.tsdl_parser.specs.declared.tree.BlockKind.TheVariants as of_kind
 use Rattle.tsdl_parser.specs.declared.tree.Item.{Item}
 use Rattle.tsdl_parser.specs.declared.tree.Item.TheVariants as items
-use Rattle.tsdl_parser.specs.Symbols.{is_text}
+use Rattle.trace_types.specs.Texts.{is_text}
 use Rattle.tsdl_parser.specs.Parsers.{Parser, ◌>>=◌, ◌>>◌, ◌<$>◌, pure, refuse, peek, skip, sees, eat, expect, if_seen, word_of, word, number, string, name, braced}
 
 abbrev pub Text : Type 0

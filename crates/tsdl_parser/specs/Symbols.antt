@@ -1,7 +1,7 @@
 -- The symbols of the grammar of TSDL (CTF 1.8, appendix C).
-use Rattle.std.specs.Prelude.{ℕ, List, [], ◌∷◌, Bool, if◌then◌else◌, nat_eq, codes}
-use Rattle.std.specs.Cmp.Lexicographic.{pointwise}
+use Rattle.std.specs.Prelude.{ℕ, List, [], ◌∷◌, Bool, if◌then◌else◌, codes}
 use denote.Enum.Bare.{sameb}
+use Rattle.trace_types.specs.Texts.{is_text}
 use Rattle.tsdl_lex.specs.declared.token.Token.{Token}
 use Rattle.tsdl_lex.specs.declared.token.TokenKind.{TokenKind}
 use Rattle.tsdl_lex.specs.declared.token.TokenKind.TheVariants as kind
@@ -14,9 +14,6 @@ use Rattle.tsdl_parser.specs.contracts.symbol.Symbol.{the_type}
 -- `==` on symbols
 unfoldable pub same : Symbol → Symbol → Bool
 same = sameb the_type
-
-abbrev pub is_text : List ℕ → List ℕ → Bool
-is_text word text = pointwise nat_eq word text
 
 -- a keyword, or else a name
 unfoldable pub word_symbol : List ℕ → Symbol

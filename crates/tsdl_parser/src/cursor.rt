@@ -6,10 +6,10 @@ ghost use Rattle.tsdl_parser.specs.Reading.{is_align, sees_align};
 ghost use Rattle.tsdl_parser.specs.Parsers.{Reads};
 
 use crate::fault::Fault;
-use crate::symbol::{Symbol, is_same, is_text, symbol_of};
+use crate::symbol::{Symbol, is_same, symbol_of};
 use std::alloc::Global;
 use std::marker::Model;
-use trace_types::Text;
+use trace_types::{Text, is_text};
 use tsdl_lex::{Token, TokenKind};
 
 /// The tokens that are left. Contracts see their list.

@@ -1,7 +1,9 @@
 //! What the grammar sees of a token.
 ghost use Rattle.std.specs.Prelude.{◌≡◌, ◌≢◌, true, false};
-ghost use Rattle.tsdl_parser.specs.Symbols.{same, is_text, symbol_of, word_symbol, mark_symbol};
+ghost use Rattle.trace_types.specs.Texts.{is_text};
+ghost use Rattle.tsdl_parser.specs.Symbols.{same, symbol_of, word_symbol, mark_symbol};
 
+use trace_types::is_text;
 use tsdl_lex::{MarkKind, TokenKind};
 
 /// A symbol of the grammar: a keyword, a name, a number, a string, a mark, or the end of the text.
@@ -87,13 +89,6 @@ fn word_symbol(word: &[u8]) -> Symbol
     } else {
         Symbol::Name
     }
-}
-
-/// Whether a word is this text.
-pub fn is_text(word: &[u8], text: &[u8]) -> bool
-    ensures { result ≡ is_text word.now text.now }
-{
-    word == text
 }
 
 fn mark_symbol(mark: MarkKind) -> Symbol

@@ -7,7 +7,7 @@ use Rattle.trace_types.specs.declared.byte_order.ByteOrderKind.TheVariants.{Litt
 use Rattle.tsdl_parser.specs.declared.tree.Attr.{Attr}
 use Rattle.tsdl_parser.specs.declared.tree.AttrValue.{AttrValue}
 use Rattle.tsdl_parser.specs.declared.tree.AttrValue.TheVariants as value
-use Rattle.tsdl_parser.specs.Symbols.{is_text}
+use Rattle.trace_types.specs.Texts.{is_text}
 use Rattle.type_scope.specs.Said.{is_named, is_signed, is_word, said, same_words, sign_said}
 use Rattle.type_table.specs.declared.cause.MetaItemCause.{MetaItemCause}
 use Rattle.type_table.specs.declared.cause.MetaItemCause.TheVariants.{BadAttribute, BadReference}

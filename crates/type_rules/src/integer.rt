@@ -1,7 +1,7 @@
 //! Integers and what their attributes say.
 ghost use Rattle.std.specs.Prelude.{◌≡◌, ◌≤◌, ◌<◌, ◌%◌, ◌^◌, [], codes, false, length, position, unwrap_or, IfErr, IfNone, IfOk, IfSome, None, Some};
 ghost use Rattle.indexmap.specs.IndexMap.{keys};
-ghost use Rattle.tsdl_parser.specs.Symbols.{is_text};
+ghost use Rattle.trace_types.specs.Texts.{is_text};
 ghost use Rattle.type_table.specs.Faults.{OnBreak};
 ghost use Rattle.type_rules.specs.Attributes.{align_said, before_last, clock_said, clock_words, first_fault, integer_fault, integer_of, is_twice, order_said, own_fault, size_said, some_words, cause_unless, usual_align};
 ghost use Rattle.type_scope.specs.Said.{is_named, said, same_words, sign_said, value_named};

@@ -4,7 +4,7 @@ use Rattle.std.specs.Cmp.Lexicographic.{pointwise}
 use Rattle.tsdl_parser.specs.declared.tree.Attr.{Attr}
 use Rattle.tsdl_parser.specs.declared.tree.AttrValue.{AttrValue}
 use Rattle.tsdl_parser.specs.declared.tree.AttrValue.TheVariants as value
-use Rattle.tsdl_parser.specs.Symbols.{is_text}
+use Rattle.trace_types.specs.Texts.{is_text}
 use Rattle.type_table.specs.Types.{Text}
 
 abbrev pub same_words : List Text → List Text → Bool

@@ -1,7 +1,7 @@
 -- What a text has declared up to a point in it, and what is being read there.
 use Rattle.std.specs.Prelude.{◌≡◌, ℕ, ◌<◌, Bool, true, false, List, [], ◌∷◌, ◌++◌, length, max, Option, Some, None, if◌then◌else◌, not, is_some, Result, Ok, Err}
 use Rattle.std.specs.Map.{lookup}
-use Rattle.tsdl_parser.specs.Symbols.{is_text}
+use Rattle.trace_types.specs.Texts.{is_text}
 use Rattle.type_table.specs.declared.cause.MetaItemCause.{MetaItemCause}
 use Rattle.type_table.specs.declared.cause.MetaItemCause.TheVariants.{UnknownType, DuplicateId, BadAttribute}
 use Rattle.type_table.specs.declared.fault.Fault.{Fault}

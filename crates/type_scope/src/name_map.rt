@@ -1,7 +1,7 @@
 //! Types by their names.
 ghost use Rattle.std.specs.Prelude.{◌≡◌, ◌++◌, ◌∷◌, [], None, OnErr, OnOk};
 ghost use Rattle.std.specs.Map.{lookup};
-ghost use Rattle.tsdl_parser.specs.Symbols.{is_text};
+ghost use Rattle.trace_types.specs.Texts.{is_text};
 
 use indexmap::IndexMap;
 use std::alloc::Global;

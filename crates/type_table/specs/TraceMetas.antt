@@ -1,7 +1,7 @@
 -- What blocks declared, with types as indices.
 use Rattle.std.specs.Prelude.{ℕ, ℤ, pos, neg_ℤ, ◌≤ℤ◌, ◌≤◌, ◌<◌, ◌^◌, Bool, false, true, if◌then◌else◌, List, [], ◌∷◌, ◌++◌, length, Option, None, Some}
 use Rattle.std.specs.List.{list_any}
-use Rattle.tsdl_parser.specs.Symbols.{is_text}
+use Rattle.trace_types.specs.Texts.{is_text}
 use Rattle.type_table.specs.declared.declared.ClockRate.{ClockRate}
 use Rattle.type_table.specs.declared.declared.EventId.{EventId}
 use Rattle.type_table.specs.declared.declared.EventParts.{EventParts}

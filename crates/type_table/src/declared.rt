@@ -4,7 +4,7 @@ ghost use Rattle.std.specs.List.{position_or_len};
 ghost use Rattle.std.specs.Map.{keys_of, lookup};
 ghost use Rattle.std.specs.Option.{option_copied};
 ghost use Rattle.indexmap.specs.IndexMap.{keys};
-ghost use Rattle.tsdl_parser.specs.Symbols.{is_text};
+ghost use Rattle.trace_types.specs.Texts.{is_text};
 ghost use Rattle.type_table.specs.TraceMetas.{AreFew, IsRate, kept_clock, kept_event, kept_hostname, kept_name, kept_stream, kept_trace, kept_uuid, nothing_kept, same_event};
 
 use crate::few::are_few;

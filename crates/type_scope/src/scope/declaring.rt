@@ -1,7 +1,7 @@
 //! What blocks add to what they declared, with types that are there.
 ghost use Rattle.std.specs.Prelude.{◌≡◌, ◌<◌, [], None, OnOk, IfSome, Some, false, is_some, length, option_map};
 ghost use Rattle.std.specs.Map.{lookup};
-ghost use Rattle.tsdl_parser.specs.Symbols.{is_text};
+ghost use Rattle.trace_types.specs.Texts.{is_text};
 ghost use Rattle.type_scope.specs.TypeScopes.{with_deferred, with_scopes, with_declared};
 ghost use Rattle.type_table.specs.PerScope.{with_scope};
 ghost use Rattle.type_scope.specs.References.{all_lead};

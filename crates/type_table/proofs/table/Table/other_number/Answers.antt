@@ -1,5 +1,5 @@
 use Rattle.std.proofs.Common.{rules, ◌≡◌, ◌∙◌, Some, ap, option_and_then, position, sym}
-use Rattle.tsdl_parser.specs.Symbols.{is_text}
+use Rattle.trace_types.specs.Texts.{is_text}
 use Rattle.type_table.specs.Names.{other_spelling}
 use Rattle.type_table.specs.Table.{name_at}
 use Rattle.type_table.proofs.table.Table.other_number.Goals as goal
