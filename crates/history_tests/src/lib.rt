@@ -4,6 +4,8 @@
 #[cfg(test)]
 mod alike;
 #[cfg(test)]
+mod closed;
+#[cfg(test)]
 mod drawn;
 #[cfg(test)]
 mod grown;

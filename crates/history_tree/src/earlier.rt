@@ -87,3 +87,18 @@ fn known(numbers: &[usize], number: usize) -> usize
     }
     number
 }
+
+#[cfg(test)]
+mod tests {
+    use super::*;
+    use std::test::Fail;
+
+    // There is nothing in it but numbers of nodes.
+    #[test]
+    fn they_are_numbers(rt: HostRuntime) -> Result<(), Fail> {
+        let Earlier { numbers } = Earlier::new(rt.alloc());
+        let numbers: Vec<usize> = numbers;
+        assert!(rt; numbers.is_empty());
+        Ok(())
+    }
+}

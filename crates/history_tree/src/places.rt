@@ -176,3 +176,35 @@ fn count_begun(places: &[Place], t: u64) -> usize
         { place.start <= t },
     )
 }
+
+#[cfg(test)]
+mod tests {
+    use super::*;
+    use std::test::Fail;
+
+    fn rows_of(places: Places) -> Vec<Row> {
+        let Places { rows } = places;
+        rows
+    }
+
+    fn places_of_row(row: Row) -> Vec<Place> {
+        let Row { places } = row;
+        places
+    }
+
+    fn numbers_of(place: Place) -> (u64, usize) {
+        let Place { start, node } = place;
+        (start, node)
+    }
+
+    // There is no interval in the index: of each it has the start and the node's number.
+    #[test]
+    fn places_are_numbers(rt: HostRuntime) -> Result<(), Fail> {
+        let rows = rows_of(Places::new(rt.alloc()));
+        assert!(rt; rows.is_empty());
+        let places = places_of_row(Row::new(rt.alloc()));
+        assert!(rt; places.is_empty());
+        assert!(rt; numbers_of(Place { start: 5, node: 7 }) == (5, 7));
+        Ok(())
+    }
+}

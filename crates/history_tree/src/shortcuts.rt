@@ -99,3 +99,18 @@ impl Shortcuts {
         }
     }
 }
+
+#[cfg(test)]
+mod tests {
+    use super::*;
+    use std::test::Fail;
+
+    // There is nothing in it but numbers of nodes.
+    #[test]
+    fn they_are_numbers(rt: HostRuntime) -> Result<(), Fail> {
+        let Shortcuts { tops } = Shortcuts::new(rt.alloc());
+        let tops: Vec<usize> = tops;
+        assert!(rt; tops.is_empty());
+        Ok(())
+    }
+}
