@@ -1,7 +1,6 @@
 //! Stores and sinks that fail.
 use hosttrace::{Status, run};
 use ht_outside::{MemorySink, MemoryStore, OpenGate, Sink, SinkError, Store, StoreError};
-use list_tests::lists::ONE_SWITCH;
 use std::alloc::AllocGlobal;
 use std::str;
 use std::test::Fail;
@@ -81,6 +80,10 @@ impl Sink for NarrowSink {
         }
     }
 }
+
+// Processor 0 goes from idle to bash at 100.
+const ONE_SWITCH: &[u8] = b"hosttrace events 1\n\
+    100 0 0 100 switch 0 swapper/0 20 0 7 bash 20\n";
 
 const METADATA: &[u8] = b"trace { byte_order = le; };";
 

@@ -6,12 +6,21 @@ use attribute_tree::Attributes;
 use event_list::read_list;
 use history_core::{Answer, Asked, History};
 use kernel_provider::Provider;
-use list_tests::lists::{ONE_INSTANT, TWO_SWITCHES};
 use std::alloc::AllocGlobal;
 use std::process::Abort;
 use std::test::Fail;
 use std::thread::Threads;
 use trace_types::{CpuLeaf, Merged, Path, ThreadKey, ThreadLeaf, Value};
+
+// Processor 0 goes from idle to bash at 100, and back at 250.
+const TWO_SWITCHES: &[u8] = b"hosttrace events 1\n\
+    100 0 0 100 switch 0 swapper/0 20 0 7 bash 20\n\
+    250 0 0 250 switch 7 bash 20 1 0 swapper/0 20\n";
+
+// Two switches at one instant: bash gives way to vi.
+const ONE_INSTANT: &[u8] = b"hosttrace events 1\n\
+    100 0 0 100 switch 0 swapper/0 20 0 7 bash 20\n\
+    100 0 0 100 switch 7 bash 20 1 8 vi 20\n";
 
 const CPU_0: Path = Path::Cpu {
     host: 0,

@@ -2,7 +2,7 @@ use Rattle.std.proofs.Common.{◌≡◌, ◌+◌, ◌*◌, ◌^◌, ◌<◌, ◌
 use Rattle.kernel_provider.specs.Given.{left}
 use Rattle.kernel_provider.specs.Steps.{steps_of}
 use Rattle.history_core.proofs.Lawful.{next_few, next_follows}
-use Rattle.question_tests.proofs.history_runs.built.Goals as goal
+use Rattle.hosttrace_tests.proofs.history_runs.built.Goals as goal
 
 pub apply-requires : goal.apply-requires
 apply-requires g c =
