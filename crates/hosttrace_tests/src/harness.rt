@@ -23,19 +23,8 @@ pub fn run_on<R: AllocGlobal + Threads + Sync>(
     name: &str,
     bytes: &[u8],
 ) -> Result<Ran, Fail> {
-    run_over(rt, line, &[(name, bytes)])
-}
-
-/// The same, where several files lie there.
-pub fn run_over<R: AllocGlobal + Threads + Sync>(
-    rt: &R,
-    line: &str,
-    files: &[(&str, &[u8])],
-) -> Result<Ran, Fail> {
     let mut store = MemoryStore::new(rt.alloc());
-    for (name, bytes) in files {
-        store.put(b"", name.as_bytes(), bytes)?;
-    }
+    store.put(b"", name.as_bytes(), bytes)?;
     run_in(rt, line, store)
 }
 

@@ -1,14 +1,11 @@
-//! Tests of whole runs over event lists.
+//! Tests of runs whose stores and sinks fail, of a history that is asked while it grows, and of the names of lists; and how
+//! words are run over files in memory.
 #![tactic(auto)]
 
 #[cfg(test)]
-mod bad_lists;
+mod faults;
 pub mod harness;
 #[cfg(test)]
-mod kind_runs;
-#[cfg(test)]
-mod many_events;
+mod history_runs;
 #[cfg(test)]
 mod name_runs;
-#[cfg(test)]
-mod state_runs;
