@@ -1,10 +1,8 @@
-//! Tests of runs whose stores and sinks fail, of a history that is asked while it grows, and of the names of lists; and how
-//! words are run over files in memory.
+//! Tests of runs whose stores and sinks fail, of a history that is asked while it grows, and of the names of lists.
 #![tactic(auto)]
 
 #[cfg(test)]
 mod faults;
-pub mod harness;
 #[cfg(test)]
 mod history_runs;
 #[cfg(test)]

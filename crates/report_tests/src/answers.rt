@@ -10,9 +10,7 @@ use report_views::report;
 use std::alloc::{AllocGlobal, Global};
 use std::process::Abort;
 use std::test::Fail;
-use trace_types::{
-    Cause, Event, HostEvents, KernelEvent, Merged, OutOfMemory, RefusedPacket, Text,
-};
+use trace_types::{Event, HostEvents, KernelEvent, Merged, OutOfMemory, Text};
 
 const TIME_END: u64 = 0x4000_0000_0000_0000;
 
@@ -71,15 +69,6 @@ pub fn host_of(
         refused: Vec::new(alloc),
         packets: events.len() as u64,
         incomplete: 0,
-    })
-}
-
-/// A packet of the file `f` that is refused.
-pub fn refused(alloc: Global, offset: u64, cause: Cause) -> Result<RefusedPacket, OutOfMemory> {
-    Ok(RefusedPacket {
-        file: Text::from_bytes(alloc, b"f")?,
-        offset,
-        cause,
     })
 }
 

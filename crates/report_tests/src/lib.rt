@@ -4,8 +4,4 @@
 #[cfg(test)]
 mod answers;
 #[cfg(test)]
-mod lines;
-#[cfg(test)]
-mod pieces;
-#[cfg(test)]
 mod texts;

@@ -1,41 +1,44 @@
-//! Reports by hand.
-use crate::answers::{host_of, mark, merged, message, plain, refused, report_of};
+//! Reports by hand, where what is reported of hosts doesn't hang together as it does in traces.
+use crate::answers::{host_of, mark, merged, message, plain, report_of};
 use host_merge::Placed;
+use message_match::Message;
+use std::alloc::{AllocGlobal, Global};
+use std::process::Abort;
 use std::test::Fail;
-use trace_types::Cause;
+use trace_types::{HostEvents, Merged, OutOfMemory};
 
-// One host has no name and a packet that is refused.
-#[test]
-fn one_host(rt: HostRuntime) -> Result<(), Fail> {
-    let alloc = rt.alloc();
-    let mut host = host_of(alloc, 0, b"", &[plain(0, 1005), plain(0, 1007)])?;
-    host.refused.push(refused(alloc, 12, Cause::ShortContent)?)?;
-    let hosts = Vec::from_array(alloc, [host])?;
-    let text = report_of(&rt, &hosts, &[], &[merged(1005, 0), merged(1007, 0)], &[])?;
-    assert_eq!(rt;
-        text.as_slice(),
-        b"hosttrace report 1\n\
-        drift 1000\n\
-        host 0 % events 2 packets 2 refused 1 incomplete 0\n\
-        refused 0 f 12 ShortContent\n\
-        messages matched 0 ambiguous 0\n\
-        tree 0 root\n\
-        inverted 0\n\
-        window 1005 1007\n\
-        end\n"
-            .as_slice()
-    );
-    Ok(())
+// Two hosts without events.
+fn two_hosts(alloc: Global) -> Result<Vec<HostEvents>, OutOfMemory> {
+    Ok(Vec::from_array(
+        alloc,
+        [host_of(alloc, 0, b"a", &[])?, host_of(alloc, 1, b"b", &[])?],
+    )?)
+}
+
+fn report_on_two<R: Abort + AllocGlobal>(
+    rt: &R,
+    messages: &[Message],
+    merged: &[Merged],
+    placed: &[Placed],
+) -> Result<Vec<u8>, Fail> {
+    let hosts = two_hosts(rt.alloc())?;
+    report_of(rt, &hosts, messages, merged, placed)
+}
+
+// One host, among whose events stand marks.
+fn marked_host(alloc: Global) -> Result<Vec<HostEvents>, OutOfMemory> {
+    let host = host_of(alloc, 0, b"a", &[mark(0, 5, 3), plain(0, 6), mark(0, 7, 4)])?;
+    Ok(Vec::from_array(alloc, [host])?)
+}
+
+fn report_on_marks<R: Abort + AllocGlobal>(rt: &R) -> Result<Vec<u8>, Fail> {
+    let hosts = marked_host(rt.alloc())?;
+    report_of(rt, &hosts, &[], &[], &[])
 }
 
 // Of a message each way, the lower point is (1000, 2000) and the upper one (2000, 2500): no slope near 1 fits.
 #[test]
 fn no_slope(rt: HostRuntime) -> Result<(), Fail> {
-    let alloc = rt.alloc();
-    let hosts = Vec::from_array(
-        alloc,
-        [host_of(alloc, 0, b"a", &[])?, host_of(alloc, 1, b"b", &[])?],
-    )?;
     let messages = [message(0, 2000, 1, 1000), message(1, 2000, 0, 2501)];
     let stream = [
         merged(1000, 1),
@@ -53,7 +56,7 @@ fn no_slope(rt: HostRuntime) -> Result<(), Fail> {
             receive: 3,
         },
     ];
-    let text = report_of(&rt, &hosts, &messages, &stream, &placed)?;
+    let text = report_on_two(&rt, &messages, &stream, &placed)?;
     assert_eq!(rt;
         text.as_slice(),
         b"hosttrace report 1\n\
@@ -76,13 +79,8 @@ fn no_slope(rt: HostRuntime) -> Result<(), Fail> {
 // The lower point is (500, 1000), and the upper one (600, 1199): the drift alone bounds the slopes.
 #[test]
 fn a_child(rt: HostRuntime) -> Result<(), Fail> {
-    let alloc = rt.alloc();
-    let hosts = Vec::from_array(
-        alloc,
-        [host_of(alloc, 0, b"a", &[])?, host_of(alloc, 1, b"b", &[])?],
-    )?;
     let messages = [message(0, 1000, 1, 500), message(1, 600, 0, 1200)];
-    let text = report_of(&rt, &hosts, &messages, &[], &[])?;
+    let text = report_on_two(&rt, &messages, &[], &[])?;
     assert_eq!(rt;
         text.as_slice(),
         b"hosttrace report 1\n\
@@ -104,10 +102,7 @@ fn a_child(rt: HostRuntime) -> Result<(), Fail> {
 // Two marks of 3 and 4 events stand among a host's events.
 #[test]
 fn marks(rt: HostRuntime) -> Result<(), Fail> {
-    let alloc = rt.alloc();
-    let host = host_of(alloc, 0, b"a", &[mark(0, 5, 3), plain(0, 6), mark(0, 7, 4)])?;
-    let hosts = Vec::from_array(alloc, [host])?;
-    let text = report_of(&rt, &hosts, &[], &[], &[])?;
+    let text = report_on_marks(&rt)?;
     assert_eq!(rt;
         text.as_slice(),
         b"hosttrace report 1\n\

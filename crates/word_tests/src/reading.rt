@@ -1,21 +1,10 @@
 //! Reads lines of words, and writes what they ask for.
 use command_words::{Command, Input, PlainCommand, WordsError, parse_words};
-use sqlite_items::Items;
-use std::alloc::{AllocGlobal, Global};
-use std::process::Abort;
+use std::alloc::Global;
 use std::test::Fail;
 use trace_types::Text;
 
-/// The words of a line, which single spaces part. Two spaces have an empty word between them.
-pub fn words_of(alloc: Global, line: &str) -> Result<Vec<String>, Fail> {
-    let mut words = Vec::new(alloc);
-    for word in line.split(' ') {
-        words.push(String::from_str(alloc, word)?)?;
-    }
-    Ok(words)
-}
-
-/// What the words of a line ask for, as a text.
+/// What the words of a line, which single spaces part, ask for, as a text.
 pub fn asked(alloc: Global, line: &str) -> Result<String, Fail> {
     let words = words_of(alloc, line)?;
     match parse_words(alloc, &words) {
@@ -25,35 +14,34 @@ pub fn asked(alloc: Global, line: &str) -> Result<String, Fail> {
     }
 }
 
-/// Checks what the words of each line ask for.
-pub fn check_rows<R: AllocGlobal + Abort>(rt: &R, rows: &[(&str, &str)]) -> Result<(), Fail> {
-    for (line, text) in rows {
-        let is = asked(rt.alloc(), line)?;
-        assert_eq!(rt; is.as_str(), *text, "{line}");
+fn words_of(alloc: Global, line: &str) -> Result<Vec<String>, Fail> {
+    let mut words = Vec::new(alloc);
+    for word in line.split(' ') {
+        words.push(String::from_str(alloc, word)?)?;
     }
-    Ok(())
+    Ok(words)
 }
 
 fn text_of(alloc: Global, command: &PlainCommand) -> Result<String, Fail> {
     match command {
-        PlainCommand::Check { folders } => {
-            let names = names_of(alloc, folders)?;
-            Ok(format!(in alloc; "check{names}")?)
+        PlainCommand::Check { folders } => named(alloc, "check", folders.as_slice()),
+        PlainCommand::Report { folders, drift } => {
+            drifted(alloc, "report", *drift, folders.as_slice())
         }
-        PlainCommand::Report { folders, drift } => merged_text(alloc, "report", folders, *drift),
-        PlainCommand::Events { folders, drift } => merged_text(alloc, "events", folders, *drift),
+        PlainCommand::Events { folders, drift } => {
+            drifted(alloc, "events", *drift, folders.as_slice())
+        }
         PlainCommand::State { input, at } => {
-            let source = input_of(alloc, input)?;
-            Ok(format!(in alloc; "state at {at}{source}")?)
+            let begin = format!(in alloc; "state at {at}")?;
+            read_from(alloc, &begin, input)
         }
         PlainCommand::Ask {
             input,
             questions,
             once,
         } => {
-            let source = input_of(alloc, input)?;
-            let file = name_of(alloc, questions)?;
-            Ok(format!(in alloc; "ask {file}, once {once}{source}")?)
+            let begin = format!(in alloc; "ask {}, once {once}", name(questions)?)?;
+            read_from(alloc, &begin, input)
         }
         PlainCommand::Path {
             input,
@@ -62,8 +50,8 @@ fn text_of(alloc: Global, command: &PlainCommand) -> Result<String, Fail> {
             from,
             to,
         } => {
-            let source = input_of(alloc, input)?;
-            Ok(format!(in alloc; "path of {tid} on {host} from {from} to {to}{source}")?)
+            let begin = format!(in alloc; "path of {tid} on {host} from {from} to {to}")?;
+            read_from(alloc, &begin, input)
         }
         PlainCommand::Make {
             number,
@@ -73,38 +61,28 @@ fn text_of(alloc: Global, command: &PlainCommand) -> Result<String, Fail> {
     }
 }
 
-fn merged_text(
-    alloc: Global,
-    word: &str,
-    folders: &Items<Text>,
-    drift: u32,
-) -> Result<String, Fail> {
-    let names = names_of(alloc, folders)?;
-    Ok(format!(in alloc; "{word}, drift {drift}{names}")?)
-}
-
-fn input_of(alloc: Global, input: &Input) -> Result<String, Fail> {
+// A text, and where a command reads from.
+fn read_from(alloc: Global, begin: &str, input: &Input) -> Result<String, Fail> {
     match input {
-        Input::List(file) => {
-            let file = name_of(alloc, file)?;
-            Ok(format!(in alloc; ", list {file}")?)
-        }
-        Input::Folders { dirs, drift } => {
-            let names = names_of(alloc, dirs)?;
-            Ok(format!(in alloc; ", drift {drift}{names}")?)
-        }
+        Input::List(file) => Ok(format!(in alloc; "{begin}, list {}", name(file)?)?),
+        Input::Folders { dirs, drift } => drifted(alloc, begin, *drift, dirs.as_slice()),
     }
 }
 
-fn names_of(alloc: Global, folders: &Items<Text>) -> Result<String, Fail> {
-    let mut names = String::new(alloc);
-    for folder in folders.as_slice() {
-        names.push_str(", ")?;
-        names.push_str(name_of(alloc, folder)?.as_str())?;
-    }
-    Ok(names)
+fn drifted(alloc: Global, begin: &str, drift: u32, folders: &[Text]) -> Result<String, Fail> {
+    let begin = format!(in alloc; "{begin}, drift {drift}")?;
+    named(alloc, &begin, folders)
 }
 
-fn name_of(alloc: Global, text: &Text) -> Result<String, Fail> {
-    Ok(String::from_str(alloc, str::from_utf8(text.as_bytes())?)?)
+fn named(alloc: Global, begin: &str, folders: &[Text]) -> Result<String, Fail> {
+    let mut text = String::from_str(alloc, begin)?;
+    for folder in folders {
+        text.push_str(", ")?;
+        text.push_str(name(folder)?)?;
+    }
+    Ok(text)
+}
+
+fn name(text: &Text) -> Result<&str, Fail> {
+    Ok(str::from_utf8(text.as_bytes())?)
 }
