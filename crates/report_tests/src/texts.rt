@@ -1,11 +1,11 @@
 //! Reports by hand, where what is reported of hosts doesn't hang together as it does in traces.
-use crate::answers::{host_of, mark, merged, message, plain, report_of};
+use crate::answers::{event, host_of, mark, merged, message, plain, report_of};
 use host_merge::Placed;
 use message_match::Message;
 use std::alloc::{AllocGlobal, Global};
 use std::process::Abort;
 use std::test::Fail;
-use trace_types::{HostEvents, Merged, OutOfMemory};
+use trace_types::{Comm, Event, HostEvents, KernelEvent, Merged, OutOfMemory, Text};
 
 // Two hosts without events.
 fn two_hosts(alloc: Global) -> Result<Vec<HostEvents>, OutOfMemory> {
@@ -34,6 +34,58 @@ fn marked_host(alloc: Global) -> Result<Vec<HostEvents>, OutOfMemory> {
 fn report_on_marks<R: Abort + AllocGlobal>(rt: &R) -> Result<Vec<u8>, Fail> {
     let hosts = marked_host(rt.alloc())?;
     report_of(rt, &hosts, &[], &[], &[])
+}
+
+// A switch at priority 20 from the idle thread to bash.
+fn to_bash() -> KernelEvent {
+    KernelEvent::Switch {
+        prev_state: 0,
+        prev_tid: 0,
+        next_tid: 7,
+        prev_prio: 20,
+        next_prio: 20,
+        prev_comm: Comm::first_of(b"swapper/0"),
+        next_comm: Comm::first_of(b"bash"),
+    }
+}
+
+// Three calls of bash, which then ends and is gone.
+fn calls() -> [Event; 6] {
+    [
+        event(0, 100, to_bash()),
+        event(0, 110, KernelEvent::CallIn { name: 1 }),
+        event(0, 120, KernelEvent::CallIn { name: 0 }),
+        event(0, 130, KernelEvent::CallIn { name: 1 }),
+        event(0, 150, KernelEvent::Exit { tid: 7 }),
+        event(0, 200, KernelEvent::Free { tid: 7 }),
+    ]
+}
+
+fn calling_host(alloc: Global) -> Result<Vec<HostEvents>, OutOfMemory> {
+    let mut host = host_of(alloc, 0, b"", &calls())?;
+    host.names
+        .push(Text::from_bytes(alloc, b"syscall_entry_ab")?)?;
+    host.names
+        .push(Text::from_bytes(alloc, b"asyscall_entry_b")?)?;
+    Ok(Vec::from_array(alloc, [host])?)
+}
+
+// Events whose own times are their keys.
+fn keyed(alloc: Global, events: &[Event]) -> Result<Vec<Merged>, OutOfMemory> {
+    let mut merged = Vec::new(alloc);
+    for event in events {
+        merged.push(Merged {
+            key: event.time,
+            event: *event,
+        })?;
+    }
+    Ok(merged)
+}
+
+fn report_on_calls<R: Abort + AllocGlobal>(rt: &R) -> Result<Vec<u8>, Fail> {
+    let hosts = calling_host(rt.alloc())?;
+    let merged = keyed(rt.alloc(), &calls())?;
+    report_of(rt, &hosts, &[], &merged, &[])
 }
 
 // Of a message each way, the lower point is (1000, 2000) and the upper one (2000, 2500): no slope near 1 fits.
@@ -113,6 +165,30 @@ fn marks(rt: HostRuntime) -> Result<(), Fail> {
         tree 0 root\n\
         inverted 0\n\
         window 0 0\n\
+        end\n"
+            .as_slice()
+    );
+    Ok(())
+}
+
+// A thread that ended and is gone has no name any more, and two event names are of one call's name.
+#[test]
+fn no_name(rt: HostRuntime) -> Result<(), Fail> {
+    let text = report_on_calls(&rt)?;
+    assert_eq!(rt;
+        text.as_slice(),
+        b"hosttrace report 1\n\
+        drift 1000\n\
+        host 0 % events 6 packets 6 refused 0 incomplete 0\n\
+        messages matched 0 ambiguous 0\n\
+        tree 0 root\n\
+        inverted 0\n\
+        window 100 200\n\
+        cpu 0 0 busy 100 idle 0 unknown 0 irq 0 softirq 0\n\
+        thread 0 0_0 swapper/0 running 0\n\
+        thread 0 7 %- running 50\n\
+        calls 0 ab 1\n\
+        calls 0 ab 2\n\
         end\n"
             .as_slice()
     );
