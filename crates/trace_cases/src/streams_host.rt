@@ -50,19 +50,22 @@ fn files_of(alloc: Global, names: &[String], streams: &[Vec<u8>]) -> anyhow::Res
 {
     let mut files = Vec::new(alloc);
     for (name, bytes) in names.iter().zip(streams) {
-        add_file(alloc, own_name(name.as_bytes()), bytes, &mut files)?;
+        add_file(alloc, own_name(name.as_str()), bytes, &mut files)?;
     }
     Ok(files)
 }
 
 // A file's name in its folder.
-fn own_name(path: &[u8]) -> &[u8] {
-    path.rsplit(|byte| *byte == b'/').next().unwrap_or(path)
+fn own_name(path: &str) -> &str {
+    match path.rsplit_once('/') {
+        Some((_, name)) => name,
+        None => path,
+    }
 }
 
 fn add_file(
     alloc: Global,
-    name: &[u8],
+    name: &str,
     bytes: &[u8],
     files: &mut Vec<FileBytes>,
 ) -> anyhow::Result<()>
@@ -72,7 +75,7 @@ fn add_file(
     if bytes.len() > 1 << 60 {
         bail!("a file of more than 2^60 bytes");
     }
-    let name = Text::from_bytes(alloc, name)?;
+    let name = Text::from_bytes(alloc, name.as_bytes())?;
     let bytes = Vec::from_slice(alloc, bytes)?;
     files.push(FileBytes { name, bytes })?;
     Ok(())
