@@ -6,18 +6,21 @@
 mod metadata;
 mod printed_tokens;
 mod printed_trees;
+mod streams;
+mod streams_cut;
+mod streams_fields;
+mod streams_host;
+mod streams_kinds;
+mod streams_read;
 
 use std::io::{self, Write};
 use std::process::ExitCode;
+use std::thread::Threads;
 use std::{env, fs};
 
 fn main(rt: HostRuntime) -> anyhow::Result<ExitCode> {
     let words = words_given(&rt)?;
-    let Some((mode, names)) = words.split_first() else {
-        return usage(&rt);
-    };
-    let files = files_of(&rt, names)?;
-    print(&rt, mode.as_str(), &files)
+    print_words(&rt, &rt, &words)
 }
 
 fn words_given(rt: &HostRuntime) -> anyhow::Result<Vec<String>> {
@@ -28,7 +31,19 @@ fn words_given(rt: &HostRuntime) -> anyhow::Result<Vec<String>> {
     Ok(words)
 }
 
-fn files_of(rt: &HostRuntime, names: &[String]) -> anyhow::Result<Vec<Vec<u8>>> {
+fn print_words(
+    rt: &HostRuntime,
+    threads: &(impl Threads + Sync),
+    words: &[String],
+) -> anyhow::Result<ExitCode> {
+    let Some((mode, names)) = words.split_first() else {
+        return usage(rt);
+    };
+    let files = files_read(rt, names)?;
+    print_files(rt, threads, mode.as_str(), names, &files)
+}
+
+fn files_read(rt: &HostRuntime, names: &[String]) -> anyhow::Result<Vec<Vec<u8>>> {
     let mut files = Vec::new(rt.alloc());
     for name in names {
         files.push(fs::read(rt, name.as_str())?)?;
@@ -36,15 +51,30 @@ fn files_of(rt: &HostRuntime, names: &[String]) -> anyhow::Result<Vec<Vec<u8>>> 
     Ok(files)
 }
 
-fn print(rt: &HostRuntime, mode: &str, files: &[Vec<u8>]) -> anyhow::Result<ExitCode> {
+fn print_files(
+    rt: &HostRuntime,
+    threads: &(impl Threads + Sync),
+    mode: &str,
+    names: &[String],
+    files: &[Vec<u8>],
+) -> anyhow::Result<ExitCode> {
     let mut out = Vec::new(rt.alloc());
     match mode {
         "text" | "tokens" | "places" | "declarations" | "types" | "counts" | "find" => {
-            metadata::print(rt.alloc(), mode, files, &mut out)?
+            metadata::print(rt.alloc(), mode, files, &mut out)?;
         }
-        _ => return usage(rt),
+        _ => {
+            if !streams::print(rt.alloc(), threads, mode, names, files, &mut out)? {
+                return usage(rt);
+            }
+        }
     }
-    io::writer(rt).write_all(&out)?;
+    write_out(rt, &out)
+}
+
+fn write_out(rt: &HostRuntime, out: &[u8]) -> anyhow::Result<ExitCode> {
+    let stdout = rt.stdout();
+    io::writer(&stdout).write_all(out)?;
     Ok(ExitCode::SUCCESS)
 }
 
