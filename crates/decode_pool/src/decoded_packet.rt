@@ -165,11 +165,13 @@ fn accept_events(
     ensures more { IfOk result (λ r. IfNone r (part_within most (part_by host meta.now span.now (as_packet (events_left reader.entry))) ≡ None)) }
     ensures refused { (cause : Cause) → result ≡ Err (failure.Refused cause) → part_by host meta.now span.now (as_packet (events_left reader.entry)) ≡ part.Refused span.now.offset cause }
 {
-    if let Some(packet) = take_events(alloc, most, host, meta, layout, span, &mut reader)? {
-        return Ok(Some(packet));
+    match take_events(alloc, most, host, meta, layout, span, &mut reader) {
+        Ok(None) => match reader.skip_rest(alloc, layout.skips(meta)) {
+            Ok(()) => Ok(None),
+            Err(failure) => Err(failure),
+        },
+        found => found,
     }
-    reader.skip_rest(alloc, layout.skips(meta))?;
-    Ok(None)
 }
 
 // The packet, where it has at most `most` events; none where the reader has read one more, and then stands behind that.
