@@ -78,3 +78,9 @@ too_many host meta span events incomplete most raw (Ok raws) many e = by (nat_le
     by true h = let within = leb-true (length all) most h in absurd (omega (arith, many, within, length-append events (event_of host meta raw ∷ map (event_of host meta) raws)))
     by false h = refl
 too_many host meta span events incomplete most raw (Err cause) many e = absurd (cc)
+
+-- where what stands behind an event is refused, the packet is
+pub refused_behind : (host : ℕ) (meta : TraceMetaModel) (span : PacketSpan) (events : List Event) (incomplete : ℕ) (raw : RawEvent) (left : Result (List RawEvent) Cause) (cause : Cause) → refusal left ≡ Some cause
+    → with_left host meta span events incomplete (and_before raw left) ≡ part.Refused span.offset cause
+refused_behind host meta span events incomplete raw (Ok raws) cause e = absurd (cc)
+refused_behind host meta span events incomplete raw (Err other) cause e = let same : other ≡ cause = cc in ap (part.Refused span.offset) same

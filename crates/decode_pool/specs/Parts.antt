@@ -1,5 +1,5 @@
 -- What the pieces of a stream file hold: a packet's events, or why there are none (CTF 1.8, section 5; what an event is, is this project's own).
-use Rattle.std.specs.Prelude.{ℕ, ◌+◌, List, [], ◌∷◌, map, if◌then◌else◌}
+use Rattle.std.specs.Prelude.{ℕ, ◌+◌, Bool, List, [], ◌∷◌, map, if◌then◌else◌}
 use Rattle.type_table.specs.TraceMetas.{TraceMetaModel}
 use Rattle.trace_types.specs.declared.event.Event.{Event}
 use Rattle.ctf_fields.specs.declared.raw.RawEvent.{RawEvent}
@@ -18,6 +18,10 @@ use Rattle.decode_pool.specs.declared.decoded_packet.DecodedPacket.TheVariants a
 -- an event of a packet, as one of its host's
 abbrev pub event_of : ℕ → TraceMetaModel → RawEvent → Event
 event_of host meta raw = record { time = raw.time; host = host; cpu = raw.cpu; kind = (kind_of meta raw).0 }
+
+-- the same, and whether it lacks a field
+abbrev pub made_of : ℕ → TraceMetaModel → RawEvent → Event × Bool
+made_of host meta raw = (event_of host meta raw, (kind_of meta raw).1)
 
 -- how many events lack a field
 abbrev pub incomplete_in : TraceMetaModel → List RawEvent → ℕ

@@ -1,14 +1,15 @@
 //! The pieces of a file with what they hold.
-ghost use Rattle.std.specs.Prelude.{◌≡◌, ◌≤◌, ◌^◌, Err, None, IfNone, IfOk, IfSome, length};
-ghost use Rattle.kernel_layout.specs.Tracepoints.{layout_of};
-ghost use Rattle.packet_decoder.specs.EventReaders.{events_left};
+ghost use Rattle.std.specs.Prelude.{◌≡◌, ◌≤◌, ◌<◌, ◌+◌, ◌^◌, [], Ok, Err, None, Some, IfNone, IfOk, IfSome, length};
+ghost use Rattle.ctf_fields.specs.declared.raw.RawEvent.{RawEvent};
+ghost use Rattle.kernel_layout.specs.Tracepoints.{layout_of, skips_of};
+ghost use Rattle.packet_decoder.specs.EventReaders.{IsReadAs, and_before, events_left, refusal};
 ghost use Rattle.packet_decoder.specs.Events.{as_packet, decoded};
 ghost use Rattle.packet_decoder.specs.Pieces.{LiesIn, PieceLiesIn};
 ghost use Rattle.packet_decoder.specs.declared.failure.Failure.TheVariants as failure;
 ghost use Rattle.packet_decoder.specs.declared.piece.PacketResult.TheVariants as packet;
 ghost use Rattle.trace_types.specs.declared.cause.Cause.{Cause};
 ghost use Rattle.decode_pool.specs.Excess.{part_events, part_within};
-ghost use Rattle.decode_pool.specs.Parts.{part_of, part_of_packet};
+ghost use Rattle.decode_pool.specs.Parts.{made_of, part_by, part_of, part_of_packet};
 ghost use Rattle.decode_pool.specs.declared.decoded_packet.DecodedPacket.TheVariants as part;
 
 use kernel_layout::{Layout, kind_from};
@@ -123,9 +124,8 @@ fn plan_headers(
     reader.plan_headers(alloc, layout.lone(meta))
 }
 
-// A packet with its events, of which each is made a kernel event as it is read, so that its fields' memory is used again.
-// Fields that no kind needs, or that are read by a plan, are passed over. Where there are more than `most`, the packet is read to its end all the
-// same, since it may be refused there.
+// A packet with its events. Fields that no kind needs, or that are read by a plan, are passed over. Where there are more than
+// `most`, the packet is read to its end all the same, since it may be refused there.
 fn accept_packet(
     alloc: Global,
     most: u64,
@@ -143,26 +143,65 @@ fn accept_packet(
     ensures more { IfOk result (λ r. IfNone r (part_within most (part_of_packet host meta.now file.now span.now) ≡ None)) }
     ensures refused { (cause : Cause) → result ≡ Err (failure.Refused cause) → part_of_packet host meta.now file.now span.now ≡ part.Refused span.now.offset cause }
 {
-    let mut reader = open_planned(alloc, meta, layout, file, span)?;
+    let reader = open_planned(alloc, meta, layout, file, span)?;
+    accept_events(alloc, most, host, meta, layout, span, reader)
+}
+
+// The packet before whose first event the reader stands.
+fn accept_events(
+    alloc: Global,
+    most: u64,
+    host: u32,
+    meta: &TraceMeta,
+    layout: &Layout,
+    span: &PacketSpan,
+    mut reader: EventReader<'_>,
+) -> Result<Option<AcceptedPacket>, Failure>
+    requires layout { layout.now ≡ layout_of meta.now }
+    requires first { reader.read ≡ 0 }
+    requires reader { reader.within.meta ≡ meta.now }
+    ensures kept { IfOk result (λ r. IfSome r (λ k. part_by host meta.now span.now (as_packet (events_left reader.entry)) ≡ part.Accepted k)) }
+    ensures within { IfOk result (λ r. IfSome r (λ k. length k.events ≤ most)) }
+    ensures more { IfOk result (λ r. IfNone r (part_within most (part_by host meta.now span.now (as_packet (events_left reader.entry))) ≡ None)) }
+    ensures refused { (cause : Cause) → result ≡ Err (failure.Refused cause) → part_by host meta.now span.now (as_packet (events_left reader.entry)) ≡ part.Refused span.now.offset cause }
+{
+    match take_events(alloc, most, host, meta, layout, span, &mut reader) {
+        Ok(None) => match reader.skip_rest(alloc, layout.skips(meta)) {
+            Ok(()) => Ok(None),
+            Err(failure) => Err(failure),
+        },
+        found => found,
+    }
+}
+
+// The packet, where it has at most `most` events; none where the reader has read one more, and then stands behind that.
+fn take_events(
+    alloc: Global,
+    most: u64,
+    host: u32,
+    meta: &TraceMeta,
+    layout: &Layout,
+    span: &PacketSpan,
+    reader: &mut EventReader<'_>,
+) -> Result<Option<AcceptedPacket>, Failure>
+    requires layout { layout.now ≡ layout_of meta.now }
+    requires first { reader.old.read ≡ 0 }
+    requires reader { reader.old.within.meta ≡ meta.now }
+    ensures kept { IfOk result (λ r. IfSome r (λ k. part_by host meta.now span.now (as_packet (events_left reader.old)) ≡ part.Accepted k)) }
+    ensures within { IfOk result (λ r. IfSome r (λ k. length k.events ≤ most)) }
+    ensures more { IfOk result (λ r. IfNone r (refusal (events_left reader.new) ≡ None → part_within most (part_by host meta.now span.now (as_packet (events_left reader.old))) ≡ None)) }
+    ensures rest { IfOk result (λ r. IfNone r ((cause : Cause) → refusal (events_left reader.new) ≡ Some cause → part_by host meta.now span.now (as_packet (events_left reader.old)) ≡ part.Refused span.now.offset cause)) }
+    ensures reader { IfOk result (λ r. IfNone r (reader.new.within.meta ≡ meta.now)) }
+    ensures refused { (cause : Cause) → result ≡ Err (failure.Refused cause) → part_by host meta.now span.now (as_packet (events_left reader.old)) ≡ part.Refused span.now.offset cause }
+{
     let mut events = Items::new(alloc);
     let mut incomplete = 0u64;
-    let skips = layout.skips(meta);
-    while let Some(read) = reader.next_event_of(alloc, skips)? {
+    while let Some((event, lacks)) = next_made(alloc, host, meta, layout, reader)? {
         if events.len() as u64 >= most {
-            drop(events);
-            reader.skip_rest(alloc, skips)?;
             return Ok(None);
         }
-        let ReadEvent { raw, fields_at } = read;
-        let (kind, lacks) = kind_from(meta, layout, &raw, reader.bits(), fields_at);
-        events.push(Event {
-            time: raw.time,
-            host,
-            cpu: raw.cpu,
-            kind,
-        })?;
+        events.push(event)?;
         incomplete += u64::from(lacks);
-        reader.recycle(raw.fields);
     }
     Ok(Some(AcceptedPacket {
         cpu: span.cpu,
@@ -171,6 +210,56 @@ fn accept_packet(
         events,
         incomplete,
     }))
+}
+
+// The next event, made a kernel event, and whether it lacks a field that its name calls for. Its fields' memory is used again.
+#[inline(always)]
+fn next_made(
+    alloc: Global,
+    host: u32,
+    meta: &TraceMeta,
+    layout: &Layout,
+    reader: &mut EventReader<'_>,
+) -> Result<Option<(Event, bool)>, Failure>
+    requires layout { layout.now ≡ layout_of meta.now }
+    requires reader { reader.old.within.meta ≡ meta.now }
+    ensures none { IfOk result (λ next. IfNone next (events_left reader.old ≡ Ok [])) }
+    ensures some { IfOk result (λ next. IfSome next (λ made. (whole : RawEvent) × (made ≡ made_of host meta.now whole) × (events_left reader.old ≡ and_before whole (events_left reader.new)))) }
+    ensures counts { IfOk result (λ next. IfSome next (λ made. (reader.new.read ≡ reader.old.read + 1) × (reader.new.read ≤ 2 ^ 63) × (reader.old.read < reader.old.within.end))) }
+    ensures within { IfOk result (λ next. IfSome next (λ made. reader.new.within ≡ reader.old.within)) }
+    ensures refused { (cause : Cause) → result ≡ Err (failure.Refused cause) → events_left reader.old ≡ Err cause }
+{
+    let skips = layout.skips(meta);
+    match reader.next_event_of(alloc, skips)? {
+        Some(read) => Ok(Some(made_event(host, meta, layout, reader, read))),
+        None => Ok(None),
+    }
+}
+
+// An event that was read, made a kernel event, and whether it lacks a field.
+#[inline(always)]
+fn made_event(
+    host: u32,
+    meta: &TraceMeta,
+    layout: &Layout,
+    reader: &mut EventReader<'_>,
+    read: ReadEvent,
+) -> (Event, bool)
+    requires layout { layout.now ≡ layout_of meta.now }
+    requires reader { reader.old.within.meta ≡ meta.now }
+    ensures made { (whole : RawEvent) → IsReadAs reader.old.within.meta reader.old.within.bytes reader.old.within.end (skips_of meta.now) whole read → result ≡ made_of host meta.now whole }
+    ensures reader { reader.new ≡ reader.old }
+{
+    let ReadEvent { raw, fields_at } = read;
+    let (kind, lacks) = kind_from(meta, layout, &raw, reader.bits(), fields_at);
+    let event = Event {
+        time: raw.time,
+        host,
+        cpu: raw.cpu,
+        kind,
+    };
+    reader.recycle(raw.fields);
+    (event, lacks)
 }
 
 /// How many events a piece holds.
