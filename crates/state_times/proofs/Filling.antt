@@ -1,5 +1,5 @@
 -- An attribute is busy, 0 or without a value at each instant.
-use Rattle.std.proofs.Common.{◌≡◌, ℕ, ◌+◌, ◌-◌, ◌&&◌, Bool, true, false, not, if◌then◌else◌, List, [], ◌∷◌, length, refl, sym, ap, ◌∙◌, arith}
+use Rattle.std.proofs.Common.{◌≡◌, ℕ, ◌+◌, ◌-◌, ◌&&◌, Bool, true, false, not, if◌then◌else◌, List, [], ◌∷◌, length, refl, ◌∙◌, arith}
 use Rattle.std.specs.Prelude.{count_by, pos}
 use Rattle.std.proofs.lemmas.List.FromFn.{length-range_with_len}
 use Rattle.trace_types.specs.declared.value.Value.{Value}

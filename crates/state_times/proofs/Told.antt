@@ -1,7 +1,7 @@
 -- What rows stand for on the way through the steps of a merge, and at the end.
-use Rattle.std.proofs.Common.{◌≡◌, ℕ, zero, suc, ◌+◌, ◌-◌, ◌<◌, ◌≤◌, Bool, true, false, not, cond, if◌then◌else◌, List, [], ◌∷◌, ◌++◌, length, get_or, refl, sym, ap, ◌∙◌, subst, arith, append_assoc, append-nil, length-append}
+use Rattle.std.proofs.Common.{◌≡◌, ℕ, zero, suc, ◌+◌, ◌-◌, ◌≤◌, Bool, true, false, if◌then◌else◌, List, [], ◌∷◌, ◌++◌, length, refl, sym, ap, ◌∙◌, subst, arith, append_assoc, append-nil, length-append}
 use Rattle.std.specs.Prelude.{count_by}
-use Rattle.std.specs.List.{AllByRecursion, IsDistinct, position_or_len, range_with_len}
+use Rattle.std.specs.List.{AllByRecursion, IsDistinct, position_or_len}
 use Rattle.trace_types.specs.declared.path.Path.{Path as AttributePath}
 use Rattle.trace_types.specs.declared.value.Value.{Value}
 use Rattle.trace_types.specs.declared.value.Value.TheVariants.{Null}
@@ -15,12 +15,11 @@ use Rattle.kernel_provider.specs.Replay.{state_at}
 use Rattle.kernel_provider.specs.Steps.{steps_of}
 use Rattle.kernel_provider.proofs.Replayed as replayed
 use Rattle.state_times.specs.declared.row.Row.{Row}
-use Rattle.state_times.specs.declared.times.PathTimes.{PathTimes}
-use Rattle.state_times.specs.Rows.{CanTake, IsSound, IsWithin, Times, changed, changed_at, fresh, row_among, row_step, rows_after}
-use Rattle.state_times.specs.StandsFor.{StandsFor, ended, path_times, times_at}
+use Rattle.state_times.specs.Rows.{CanTake, CanTakeAll, IsSound, IsWithin, changed, changed_at, fresh, row_among, row_step, rows_after}
+use Rattle.state_times.specs.StandsFor.{StandsFor, ended, path_times}
 use Rattle.state_times.specs.Times.{added, first_key, instants, is_one, is_unset, is_zero, last_key, time_with}
 use Rattle.state_times.proofs.Coming.{AreSteps, added_once, steps_come, window_rises}
-use Rattle.state_times.proofs.Placed.{at_number, changed_length, row_all, value_placed}
+use Rattle.state_times.proofs.Placed.{at_number, changed_length, value_placed}
 use Rattle.state_times.proofs.Stretches.{among_paths, among_rows, among_values, late, row_after, stretches, value_after}
 
 -- the rows stand for the steps before these, which are left
@@ -114,6 +113,29 @@ take_one events paths rows Finish left is = record {
   rows_are = is.rows_are;
   paths_are = is.paths_are ∙ ap (λ l. l ++ added left) (sym (append-nil paths));
 }
+
+added_cons : (step : Step) (left : List Step) → added (step ∷ left) ≡ added (step ∷ []) ++ added left
+added_cons (Advance t) left = refl
+added_cons (Add p) left = refl
+added_cons (Change t n v) left = refl
+added_cons Finish left = refl
+
+pub can_take_all : (events : List Merged) (paths : List AttributePath) (rows : List Row) (left : List Step) → AreOnTheWay events paths rows left → CanTakeAll (first_key events) paths rows left
+can_take_all events paths rows [] is = tt
+can_take_all events paths rows (step ∷ left) is =
+    (can_take events paths rows step left is, can_take_all events (paths ++ added (step ∷ [])) (row_step (first_key events) rows step) left (take_one events paths rows step left is))
+
+at_end : (events : List Merged) (paths : List AttributePath) (rows : List Row) (left : List Step) → AreOnTheWay events paths rows left
+    → AreOnTheWay events (paths ++ added left) (rows_after (first_key events) rows left) []
+at_end events paths rows [] is = subst (λ l. AreOnTheWay events l rows []) (sym (append-nil paths)) is
+at_end events paths rows (step ∷ left) is =
+    let later = rows_after (first_key events) rows (step ∷ left) in
+    let same : (paths ++ added (step ∷ [])) ++ added left ≡ paths ++ added (step ∷ left) = append_assoc paths (added (step ∷ [])) (added left) ∙ ap (λ l. paths ++ l) (sym (added_cons step left)) in
+    subst (λ l. AreOnTheWay events l later []) same
+    (at_end events (paths ++ added (step ∷ [])) (row_step (first_key events) rows step) left (take_one events paths rows step left is))
+
+pub all_taken : (events : List Merged) → RiseFrom 0 events → AreOnTheWay events (added (steps_of events)) (rows_after (first_key events) [] (steps_of events)) []
+all_taken events rise = at_end events [] [] (steps_of events) (at_first events rise)
 
 -- ---- at the end
 pub sound : (events : List Merged) (paths : List AttributePath) (rows : List Row) → AreOnTheWay events paths rows [] → IsSound paths rows (first_key events) (last_key events)

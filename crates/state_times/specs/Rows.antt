@@ -1,5 +1,5 @@
 -- The rows of attributes that steps make up, each with how long it had which value so far (this project's own).
-use Rattle.std.specs.Prelude.{◌≡◌, ◌+◌, ◌-◌, ◌<◌, ◌≤◌, ℕ, zero, suc, if◌then◌else◌, List, [], ◌∷◌, ◌++◌, get_or, length}
+use Rattle.std.specs.Prelude.{◌≡◌, ◌+◌, ◌-◌, ◌≤◌, ℕ, zero, suc, if◌then◌else◌, List, [], ◌∷◌, ◌++◌, get_or, length}
 use Rattle.std.specs.List.{AllByRecursion, position_or_len}
 use Rattle.trace_types.specs.declared.path.Path.{Path as AttributePath}
 use Rattle.trace_types.specs.declared.value.Value.{Value}
@@ -9,7 +9,7 @@ use Rattle.attribute_tree.specs.Numbered.{IsNew}
 use Rattle.kernel_provider.specs.declared.step.Step.{Step}
 use Rattle.kernel_provider.specs.declared.step.Step.TheVariants.{Advance, Add, Change, Finish}
 use Rattle.state_times.specs.declared.row.Row.{Row}
-use Rattle.state_times.specs.Times.{is_one, is_unset, is_zero}
+use Rattle.state_times.specs.Times.{added, is_one, is_unset, is_zero}
 
 -- an attribute without a value since the window began
 abbrev pub fresh : ℕ → Row
@@ -60,6 +60,11 @@ CanTake paths rows (Advance t) = Unit {0}
 CanTake paths rows (Add p) = IsNew paths p
 CanTake paths rows (Change t number value) = AllByRecursion (IsWithin t) rows
 CanTake paths rows Finish = Unit {0}
+
+-- steps each of which can come after those before it
+abbrev pub CanTakeAll : ℕ → List AttributePath → List Row → List Step → Type 0
+CanTakeAll first paths rows [] = Unit {0}
+CanTakeAll first paths rows (step ∷ steps) = CanTake paths rows step × CanTakeAll first (paths ++ added (step ∷ [])) (row_step first rows step) steps
 
 -- the paths, the row of each, and the first and the last instant of the window
 pub record Times : Type 0 where

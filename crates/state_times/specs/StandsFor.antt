@@ -1,5 +1,5 @@
 -- The times that are told of a merge (this project's own).
-use Rattle.std.specs.Prelude.{◌≡◌, ◌+◌, ◌-◌, ℕ, List}
+use Rattle.std.specs.Prelude.{◌≡◌, ◌+◌, ◌-◌, List}
 use Rattle.std.specs.List.{IsDistinct}
 use Rattle.trace_types.specs.declared.path.Path.{Path as AttributePath}
 use Rattle.trace_types.specs.declared.event.Merged.{Merged}
@@ -9,7 +9,7 @@ use Rattle.kernel_provider.specs.Steps.{steps_of}
 use Rattle.state_times.specs.declared.row.Row.{Row}
 use Rattle.state_times.specs.declared.times.PathTimes.{PathTimes}
 use Rattle.state_times.specs.Rows.{Times, changed, row_among}
-use Rattle.state_times.specs.Times.{added, first_key, instants, is_busy, is_one, is_set, is_unset, is_zero, last_key, time_with}
+use Rattle.state_times.specs.Times.{added, first_key, is_busy, is_one, is_set, is_unset, is_zero, last_key, time_with}
 
 -- a row as times, its last stretch counted
 abbrev pub ended : Row → PathTimes

@@ -1,12 +1,11 @@
 //! One attribute's value, since when it has it, and how long it had which.
 ghost use Rattle.std.specs.Prelude.{◌≡◌, ◌+◌, ◌^◌, ◌<◌, ◌++◌, ◌∷◌, [], if◌then◌else◌, OnOk};
 ghost use Rattle.std.specs.List.{AllByRecursion};
-ghost use Rattle.state_times.specs.Rows.{CanTake, IsWithin, changed, changed_at, fresh, row_step};
-ghost use Rattle.state_times.specs.Times.{added};
+ghost use Rattle.attribute_tree.specs.Numbered.{IsNew};
+ghost use Rattle.state_times.specs.Rows.{IsWithin, changed, changed_at, fresh};
 
 use attribute_tree::Attributes;
-use kernel_provider::Step;
-use trace_types::{OutOfMemory, Value, thread_status};
+use trace_types::{OutOfMemory, Path, Value, thread_status};
 
 /// A value, the time since when it is there, and how long there was none, 0 or 1 before that time, all in ns.
 #[derive(Clone, Copy, Debug)]
@@ -58,30 +57,8 @@ fn longer(sum: u64, is: bool, long: u64) -> u64
     if is { sum + long } else { sum }
 }
 
-/// Takes a step into the paths and their rows.
-pub fn take(
-    attributes: &mut Attributes,
-    rows: &mut Vec<Row>,
-    first: u64,
-    step: &Step,
-) -> Result<(), OutOfMemory>
-    requires { CanTake attributes.old.paths rows.old.items step.now }
-    ensures paths { OnOk result (attributes.new.paths ≡ attributes.old.paths ++ added (step.now ∷ [])) }
-    ensures rows { OnOk result (rows.new.items ≡ row_step first rows.old.items step.now) }
-{
-    match *step {
-        Step::Add(path) => {
-            attributes.add(path)?;
-            rows.push(fresh(first))?;
-        }
-        Step::Change { t, number, value } => change(rows, number, t, value),
-        _ => {}
-    }
-    Ok(())
-}
-
-// Gives the row of a number another value from t on.
-fn change(rows: &mut Vec<Row>, number: usize, t: u64, value: Value)
+/// Gives the row of a number another value from t on.
+pub fn change(rows: &mut Vec<Row>, number: usize, t: u64, value: Value)
     requires { AllByRecursion (IsWithin t) rows.old.items }
     ensures { rows.new.items ≡ changed_at rows.old.items number t value }
 {

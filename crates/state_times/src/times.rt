@@ -1,13 +1,16 @@
 //! The times of all attributes, in one pass over the steps of a merge.
-ghost use Rattle.std.specs.Prelude.{◌≡◌, ◌-◌, ◌<◌, Some, IfOk, length, slice_get};
+ghost use Rattle.std.specs.Prelude.{◌≡◌, ◌-◌, ◌<◌, ◌++◌, [], Some, IfOk, OnOk, length, slice_get};
+ghost use Rattle.kernel_provider.specs.Steps.{steps_of};
+ghost use Rattle.kernel_provider.specs.Given.{left};
 ghost use Rattle.trace_types.specs.Order.{RiseFrom};
-ghost use Rattle.state_times.specs.Rows.{row_among};
+ghost use Rattle.state_times.specs.Rows.{CanTakeAll, row_among, rows_after};
 ghost use Rattle.state_times.specs.StandsFor.{StandsFor, times_at};
+ghost use Rattle.state_times.specs.Times.{added};
 
-use crate::row::{Row, changed, fresh, take};
+use crate::row::{Row, change, changed, fresh};
 use crate::window::{first_key, last_key};
 use attribute_tree::Attributes;
-use kernel_provider::Provider;
+use kernel_provider::{Provider, Step};
 use std::alloc::Global;
 use std::marker::Model;
 use trace_types::{Merged, OutOfMemory, Path, Value};
@@ -97,16 +100,54 @@ pub fn times_of(alloc: Global, events: &[Merged]) -> Result<StateTimes, OutOfMem
 {
     let first = first_key(events);
     let last = last_key(events);
-    let mut provider = Provider::new(alloc);
     let mut attributes = Attributes::new(alloc);
-    let mut rows = Vec::new(alloc);
-    while let Some(step) = provider.next_step(events)? {
-        take(&mut attributes, &mut rows, first, &step)?;
-    }
+    let rows = rows_of(alloc, events, first, &mut attributes)?;
     Ok(StateTimes {
         attributes,
         rows,
         first,
         last,
     })
+}
+
+// The rows of all paths that the steps of a merge add, which come into the paths.
+fn rows_of(
+    alloc: Global,
+    events: &[Merged],
+    first: u64,
+    attributes: &mut Attributes,
+) -> Result<Vec<Row>, OutOfMemory>
+    requires { CanTakeAll first attributes.old.paths [] (steps_of events.now) }
+    ensures paths { OnOk result (attributes.new.paths ≡ attributes.old.paths ++ added (steps_of events.now)) }
+    ensures rows { IfOk result (λ rows. rows.items ≡ rows_after first [] (steps_of events.now)) }
+{
+    let mut rows = Vec::new(alloc);
+    let mut provider = Provider::new(alloc);
+    take_all(&mut provider, events, first, attributes, &mut rows)?;
+    Ok(rows)
+}
+
+// Takes the steps that a provider has left into the paths and their rows.
+fn take_all(
+    provider: &mut Provider,
+    events: &[Merged],
+    first: u64,
+    attributes: &mut Attributes,
+    rows: &mut Vec<Row>,
+) -> Result<(), OutOfMemory>
+    requires { CanTakeAll first attributes.old.paths rows.old.items (left provider.old events.now) }
+    ensures paths { OnOk result (attributes.new.paths ≡ attributes.old.paths ++ added (left provider.old events.now)) }
+    ensures rows { OnOk result (rows.new.items ≡ rows_after first rows.old.items (left provider.old events.now)) }
+{
+    while let Some(step) = provider.next_step(events)? {
+        match step {
+            Step::Add(path) => {
+                attributes.add(path)?;
+                rows.push(fresh(first))?;
+            }
+            Step::Change { t, number, value } => change(rows, number, t, value),
+            _ => {}
+        }
+    }
+    Ok(())
 }
