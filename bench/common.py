@@ -10,43 +10,38 @@ from pathlib import Path
 TOP = Path(__file__).resolve().parent.parent
 EXAMPLES = TOP / "examples/three-hosts"
 PEAK_MIB = 64
+SKIPPED = 77  # the status of a check that lacks something here
 EVENTS_PEAK = 200  # bytes an event that the command events may take at the peak, beside the files and those MiB
 
 # How the script hosttrace starts the program: the C library takes memory in large pages and in large steps.
 TUNABLES = re.search(r"GLIBC_TUNABLES-([^}]*)}", (TOP / "hosttrace").read_text())[1]
 
 
-def ready(script: Path, words: list, program: Path) -> Path:
-    """A program, once its script has built it. A build that fails ends this script, with status 70."""
-    status = subprocess.run([script, *words], stdout=subprocess.DEVNULL).returncode
+def built(program: str, variable: str) -> Path:
+    """A proved program of this repository, which is built where it isn't; an environment variable may name another one, which isn't
+    built. A build that fails ends this script, with status 70."""
+    if variable in os.environ:
+        return Path(os.environ[variable]).resolve()
+    status = subprocess.run([sys.executable, TOP / ".build/prove.py", program], stdout=subprocess.DEVNULL).returncode
     if status != 0:
-        print(f"{sys.argv[0]}: {script.name} couldn't be built", file=sys.stderr)
-        sys.exit(70)
-    return program
+        print(f"{sys.argv[0]}: {program} couldn't be built", file=sys.stderr)
+        sys.exit(status)
+    return TOP / "crates" / program / "out" / program
 
 
 def hosttrace() -> Path:
-    """The program; HOSTTRACE names another one, which isn't built."""
-    if "HOSTTRACE" in os.environ:
-        return Path(os.environ["HOSTTRACE"]).resolve()
-    words = ["state", "--at", "249", "--list", TOP / "crates/hosttrace_cli/data/a.list"]
-    return ready(TOP / "hosttrace", words, TOP / "crates/hosttrace_cli/out/hosttrace_cli")
+    """The program."""
+    return built("hosttrace_cli", "HOSTTRACE")
 
 
 def hosttrace_bench() -> Path:
-    """The program that times single calls; HOSTTRACE_BENCH names another one, which isn't built."""
-    if "HOSTTRACE_BENCH" in os.environ:
-        return Path(os.environ["HOSTTRACE_BENCH"]).resolve()
-    words = ["count", TOP / "crates/hosttrace_bench/data/small.tsdl"]
-    return ready(TOP / "bench/hosttrace_bench", words, TOP / "crates/hosttrace_bench/out/hosttrace_bench")
+    """The program that times single calls, and writes made traces into folders."""
+    return built("hosttrace_bench", "HOSTTRACE_BENCH")
 
 
-def wait_bench() -> Path:
-    """The program that times waits and questions; WAIT_BENCH names another one, which isn't built."""
-    if "WAIT_BENCH" in os.environ:
-        return Path(os.environ["WAIT_BENCH"]).resolve()
-    words = ["count", "0", "10", TOP / "crates/wait_bench/data/wakers.list"]
-    return ready(TOP / "bench/wait_bench", words, TOP / "crates/wait_bench/out/wait_bench")
+def trace_cases() -> Path:
+    """The program that prints what crates answer of bytes."""
+    return built("trace_cases", "TRACE_CASES")
 
 
 def environment(command: list) -> dict:

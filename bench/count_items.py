@@ -2,7 +2,7 @@
 """Counts the items of a plain metadata text by their first word, without a grammar: an item ends at
 a semicolon that no brace encloses.
 
-count_items.py FILE: the line that `hosttrace_bench count` prints from its word `items` on.
+count_items.py FILE: a line `items N`, and each kind with its count.
 """
 import re
 import sys

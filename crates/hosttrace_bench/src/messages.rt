@@ -3,10 +3,11 @@ ghost use Rattle.std.specs.Prelude.{◌≡◌, ◌≤◌, length};
 ghost use Rattle.trace_types.specs.declared.limits.TheConstants.{MAX_EVENTS};
 ghost use Rattle.message_match.specs.Messages.{AreNumbered, AreSmall};
 
-use crate::times::nanoseconds_since;
+use crate::nanoseconds_since;
 use anyhow::bail;
 use message_match::{Messages, matches};
 use std::alloc::{AllocError, Global};
+use std::process::ExitCode;
 use std::time::Instant;
 use trace_types::{Event, HostEvents, KernelEvent, MAX_EVENTS, OutOfMemory, SegKey, Text};
 
@@ -17,8 +18,14 @@ const SEED: u64 = 42;
 /// Prints one line for a number of network events, of which one half are sends and the other
 /// receives: the fewest nanoseconds of five runs of matching them, how many messages and ambiguous
 /// keys there are, and the sum of the messages' places.
-pub fn print_matches_time(rt: &HostRuntime, events: &str) -> anyhow::Result<()> {
-    let Traffic { first, second, .. } = traffic_of(rt.alloc(), events.parse::<u32>()? / 2)?;
+pub fn print_matches_time(rt: &HostRuntime, events: &str) -> anyhow::Result<ExitCode> {
+    let events = events.parse::<u32>()?;
+    let traffic = traffic_of(rt.alloc(), events / 2)?;
+    print_time_of(rt, events, traffic)
+}
+
+fn print_time_of(rt: &HostRuntime, events: u32, traffic: Traffic) -> anyhow::Result<ExitCode> {
+    let Traffic { first, second, .. } = traffic;
     if first.len() as u64 > MAX_EVENTS || second.len() as u64 > MAX_EVENTS {
         bail!("more events than a list may have");
     }
@@ -44,7 +51,7 @@ fn traffic_of(alloc: Global, segments: u32) -> Result<Traffic, AllocError> {
     Ok(traffic)
 }
 
-fn print_fewest(rt: &HostRuntime, events: &str, hosts: &[HostEvents]) -> anyhow::Result<()>
+fn print_fewest(rt: &HostRuntime, events: u32, hosts: &[HostEvents]) -> anyhow::Result<ExitCode>
     requires numbered { AreNumbered hosts.now }
     requires small { AreSmall hosts.now }
 {
@@ -56,7 +63,7 @@ fn print_fewest(rt: &HostRuntime, events: &str, hosts: &[HostEvents]) -> anyhow:
     println!(rt;
         "matches {events} nanoseconds {fewest} messages {messages} ambiguous {ambiguous} places {places}"
     )?;
-    Ok(())
+    Ok(ExitCode::SUCCESS)
 }
 
 fn one_run(rt: &HostRuntime, hosts: &[HostEvents]) -> anyhow::Result<u128>
