@@ -6,8 +6,8 @@ use std::alloc::Global;
 use std::test::Fail;
 use trace_types::{Merged, OutOfMemory};
 
-// How many steps these events have, at most 64, how many of them add a path, and what comes after them.
-fn counted(alloc: Global, events: &[Merged]) -> Result<(u32, u32, Option<Step>), OutOfMemory> {
+// How many steps these events have, at most 64, how many of them add a path, and whether none comes after them.
+fn counted(alloc: Global, events: &[Merged]) -> Result<(u32, u32, bool), OutOfMemory> {
     let mut provider = Provider::new(alloc);
     let mut steps = 0u32;
     let mut added = 0u32;
@@ -21,11 +21,12 @@ fn counted(alloc: Global, events: &[Merged]) -> Result<(u32, u32, Option<Step>),
             Some(_) => steps = steps.saturating_add(1),
         }
     }
-    Ok((steps, added, provider.next_step(events)?))
+    let after = provider.next_step(events)?;
+    Ok((steps, added, after.is_none()))
 }
 
 // The same of a list.
-fn counted_of(alloc: Global, list: &[u8]) -> Result<(u32, u32, Option<Step>), Fail> {
+fn counted_of(alloc: Global, list: &[u8]) -> Result<(u32, u32, bool), Fail> {
     let trace = read_list(alloc, list)?;
     Ok(counted(alloc, &trace.events)?)
 }
@@ -35,6 +36,6 @@ fn counted_of(alloc: Global, list: &[u8]) -> Result<(u32, u32, Option<Step>), Fa
 // path with its value, 6 steps. Then comes the end.
 #[test]
 fn two_switches_have_24_steps(rt: HostRuntime) -> Result<(), Fail> {
-    assert_eq!(rt; counted_of(rt.alloc(), TWO_SWITCHES)?, (24, 9, None));
+    assert_eq!(rt; counted_of(rt.alloc(), TWO_SWITCHES)?, (24, 9, true));
     Ok(())
 }
