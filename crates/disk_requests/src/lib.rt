@@ -1,0 +1,10 @@
+//! Requests of disks: which completion belongs to which issue, and what is told of each device.
+#![tactic(auto)]
+
+mod act;
+mod device;
+mod notes;
+mod table;
+
+pub use device::{DIGITS, Device};
+pub use table::{DiskTable, requests};
