@@ -28,18 +28,16 @@ counted k [] latency = []
 counted k (n ∷ ns) latency = (n + cond (has_digits k latency) 1 0) ∷ counted (k + 1) ns latency
 
 -- one of the lone issues is completed
-abbrev pub with_served : Device → Waiting → ℕ → Device
-with_served d issue key =
-    let latency = key - issue.key in
-    record d {
-      requests = d.requests + 1;
-      sectors = d.sectors + issue.sectors;
-      total = d.total + latency;
-      least = if d.requests == 0 then latency else min d.least latency;
-      greatest = max d.greatest latency;
-      lone_issues = d.lone_issues - 1;
-      digits = counted 0 d.digits latency;
-    }
+abbrev pub with_served : Device → ℕ → ℕ → Device
+with_served d sectors latency = record d {
+  requests = d.requests + 1;
+  sectors = d.sectors + sectors;
+  total = d.total + latency;
+  least = if d.requests == 0 then latency else min d.least latency;
+  greatest = max d.greatest latency;
+  lone_issues = d.lone_issues - 1;
+  digits = counted 0 d.digits latency;
+}
 
 -- there is room for one more event of any kind
 pub record HasRoom (d : Device) : Type 0 where
@@ -74,7 +72,7 @@ waits_after key Other waits t = waits t
 -- a device after a completion, where its request waits or doesn't
 abbrev pub completed : ℕ → Option Waiting → Device → Device
 completed key None d = with_lone_done d
-completed key (Some issue) d = with_served d issue key
+completed key (Some issue) d = with_served d issue.sectors (key - issue.key)
 
 -- the devices after one more event
 abbrev pub rows_after : ℕ → Act → (Target → Option Waiting) → (Disk → Option Device) → Disk → Option Device

@@ -81,14 +81,13 @@ impl Device {
         }
     }
 
-    /// One of the lone issues is completed at this key.
-    pub fn with_served(self, issue: Waiting, key: u64) -> Device
+    /// One of the lone issues is completed.
+    pub fn with_served(self, sectors: u32, latency: u64) -> Device
         requires room { HasRoom self }
         requires waits { 0 < self.lone_issues }
-        ensures exact { result ≡ with_served self issue key }
+        ensures exact { result ≡ with_served self sectors latency }
         ensures small { (n : ℕ) → IsSmall n self → IsSmall (n + 1) result }
     {
-        let latency = key.saturating_sub(issue.key);
         let least = if self.requests == 0 {
             latency
         } else {
@@ -96,7 +95,7 @@ impl Device {
         };
         Device {
             requests: self.requests + 1,
-            sectors: self.sectors + u128::from(issue.sectors),
+            sectors: self.sectors + u128::from(sectors),
             total: self.total + u128::from(latency),
             least,
             greatest: self.greatest.max(latency),

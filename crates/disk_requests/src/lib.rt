@@ -5,6 +5,8 @@ mod act;
 mod device;
 mod notes;
 mod table;
+#[cfg(test)]
+mod tests;
 
 pub use device::{DIGITS, Device};
 pub use table::{DiskTable, requests};

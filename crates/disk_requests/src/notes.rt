@@ -38,7 +38,7 @@ pub fn note(
         Act::Done { target } => {
             let device = device_in(devices, target.disk);
             let device = match waits.swap_remove(&target) {
-                Some(issue) => device.with_served(issue, key),
+                Some(issue) => device.with_served(issue.sectors, key.saturating_sub(issue.key)),
                 None => device.with_lone_done(),
             };
             devices.insert(target.disk, device)?;
