@@ -52,7 +52,7 @@ lone_issues d (m ∷ ms) = cond (is_lone_issue d (act_of m) ms) 1 0 + lone_issue
 
 -- what a merge tells of a disk
 abbrev pub device_of : List Merged → Disk → Device
-device_of merged d = told d (filter (λ s. same_disk d s.disk) (all_served merged)) (lone_issues d merged) (lone_dones_from d [] merged)
+device_of merged d = told d (filter (λ s. same_disk s.disk d) (all_served merged)) (lone_issues d merged) (lone_dones_from d [] merged)
 
 -- an issue or a completion of the merge names the disk
 abbrev pub is_named : List Merged → Disk → Bool

@@ -36,8 +36,8 @@ act_of m = act_of_kind m.event.host m.event.kind
 
 -- it issues or completes this request
 abbrev pub act_names : Target → Act → Bool
-act_names t (Issue u sectors) = same_target t u
-act_names t (Done u) = same_target t u
+act_names t (Issue u sectors) = same_target u t
+act_names t (Done u) = same_target u t
 act_names t Other = false
 
 -- the last of these events that issues or completes the request
@@ -87,7 +87,7 @@ all_served merged = served_from [] merged
 -- a completion of the disk in no request
 abbrev pub is_lone_done : Disk → List Merged → Act → Bool
 is_lone_done d before (Issue t sectors) = false
-is_lone_done d before (Done t) = if same_disk d t.disk then is_none (waiting_after before t) else false
+is_lone_done d before (Done t) = if same_disk t.disk d then is_none (waiting_after before t) else false
 is_lone_done d before Other = false
 
 -- whether it's a completion
@@ -103,12 +103,12 @@ is_completed (Some m) = is_done (act_of m)
 
 -- an issue of the disk in no request: the next event that names what it names isn't a completion, or there is none
 abbrev pub is_lone_issue : Disk → Act → List Merged → Bool
-is_lone_issue d (Issue t sectors) after = if same_disk d t.disk then not (is_completed (first_naming t after)) else false
+is_lone_issue d (Issue t sectors) after = if same_disk t.disk d then not (is_completed (first_naming t after)) else false
 is_lone_issue d (Done t) after = false
 is_lone_issue d Other after = false
 
 -- an issue or a completion of the disk
 abbrev pub is_of : Disk → Act → Bool
-is_of d (Issue t sectors) = same_disk d t.disk
-is_of d (Done t) = same_disk d t.disk
+is_of d (Issue t sectors) = same_disk t.disk d
+is_of d (Done t) = same_disk t.disk d
 is_of d Other = false
