@@ -23,9 +23,6 @@ disk_is d e h = search rules
 pub disk_itself : (d : Disk) → same_disk d d ≡ true
 disk_itself d = search rules
 
-named : Target → Merged → Option Merged
-named t m = if act_names t (act_of m) then Some m else None
-
 -- ---- the last and the first event that name a request
 pub last_one_more : (t : Target) (es : List Merged) (m : Merged) → last_naming t (es ++ m ∷ []) ≡ (if act_names t (act_of m) then Some m else last_naming t es)
 last_one_more t [] m = refl
@@ -92,18 +89,12 @@ module _ (d : Disk) (es : List Merged) (m : Merged) where
   still (Done t) undone = refl
   still Other undone = refl
 
-number : Bool → ℕ
-number b = cond b 1 0
-
 target_apart : (t u : Target) → same_target t u ≡ false → same_target u t ≡ false
 target_apart t u h = by (same_target u t) refl
   where
     by : (b : Bool) → same_target u t ≡ b → b ≡ false
     by false e = refl
     by true e = absurd (true≢false (sym (subst (λ v. same_target t v ≡ true) (sym (target_is u t e)) (target_itself t)) ∙ h))
-
-issue_in : Option Merged → Option Waiting
-issue_in o = option_and_then (λ n. issue_of n.key (act_of n)) o
 
 -- where the next event completes the request u, the issue with which u waits is lone no more
 module _ (d : Disk) (e : Merged) (es : List Merged) (m : Merged) (u : Target) (is : act_of m ≡ Done u) where
@@ -177,6 +168,6 @@ lone_one_more d (e ∷ es) m = by (act_of m) refl (lone_one_more d es m)
     by : (a : Act) → act_of m ≡ a → lone_issues d (es ++ m ∷ []) + cond (pairs d (waiting_after es) a) 1 0 ≡ lone_issues d es + cond (is_lone_issue d a []) 1 0
         → (cond (is_lone_issue d (act_of e) (es ++ m ∷ [])) 1 0 + lone_issues d (es ++ m ∷ [])) + cond (pairs d (waiting_after (e ∷ es)) a) 1 0
         ≡ (cond (is_lone_issue d (act_of e) es) 1 0 + lone_issues d es) + cond (is_lone_issue d a []) 1 0
-    by (Issue u sectors) f rest = let s = ap (λ b. cond b 1 0) (still d es m (act_of e) (undone (Issue u sectors) f refl)) in omega (arith, s, rest)
-    by Other f rest = let s = ap (λ b. cond b 1 0) (still d es m (act_of e) (undone Other f refl)) in omega (arith, s, rest)
+    by (Issue u sectors) f rest = let s = ap {B = ℕ} (λ b. cond b 1 0) (still d es m (act_of e) (undone (Issue u sectors) f refl)) in omega (arith, s, rest)
+    by Other f rest = let s = ap {B = ℕ} (λ b. cond b 1 0) (still d es m (act_of e) (undone Other f refl)) in omega (arith, s, rest)
     by (Done u) f rest = let s = balance d e es m u f (act_of e) refl in omega (arith, s, rest)
