@@ -1,4 +1,6 @@
 pub mod Digits
+pub mod Listed
 pub mod Named
 pub mod OneMore
 pub mod Room
+pub mod Taken

@@ -24,9 +24,11 @@ pub fn note(
     act: Act,
     key: u64,
 ) -> Result<(), OutOfMemory>
-    requires { CanTake act (get same_target waits.old) (get same_disk devices.old) }
+    requires room { CanTake act (get same_target waits.old) (get same_disk devices.old) }
+    requires unique { IsUnique same_disk devices.old }
     ensures waits { OnOk result ((t : Target) → get same_target waits.new t ≡ waits_after key act (get same_target waits.old) t) }
     ensures devices { OnOk result ((d : Disk) → get same_disk devices.new d ≡ rows_after key act (get same_target waits.old) (get same_disk devices.old) d) }
+    ensures unique { OnOk result (IsUnique same_disk devices.new) }
     ensures small { OnOk result ((n : ℕ) → AreSmall n (get same_disk devices.old) → AreSmall (n + 1) (get same_disk devices.new)) }
 {
     match act {

@@ -1,7 +1,7 @@
 //! The devices of a merge.
 ghost use Rattle.std.specs.Prelude.{◌≡◌, [], false, IfOk, OnOk, IsPermutation};
 ghost use Rattle.std.specs.List.{AllPairs};
-ghost use Rattle.indexmap.specs.IndexMap.{get};
+ghost use Rattle.indexmap.specs.IndexMap.{IsUnique, get, values};
 ghost use Rattle.disk_requests.specs.Devices.{AreDevices};
 ghost use Rattle.disk_requests.specs.Order.{IsNotAfter, compare_devices};
 ghost use Rattle.disk_requests.specs.Requests.{same_disk, same_target};
@@ -30,8 +30,7 @@ pub fn requests(alloc: Global, merged: &[Merged]) -> Result<DiskTable, OutOfMemo
     let mut waits = IndexMap::new(alloc);
     let mut noted = IndexMap::new(alloc);
     note_all(&mut waits, &mut noted, merged)?;
-    let mut devices: Vec<Device> = noted.values().copied().collect(alloc)?;
-    sort_devices(&mut devices);
+    let devices = in_order(alloc, &noted)?;
     Ok(DiskTable { devices })
 }
 
@@ -42,12 +41,31 @@ fn note_all(
 ) -> Result<(), OutOfMemory>
     requires waits { waits.old.entries ≡ [] }
     requires devices { devices.old.entries ≡ [] }
-    ensures { OnOk result (Notes merged.now (get same_target waits.new) (get same_disk devices.new)) }
+    requires unique { IsUnique same_disk devices.old }
+    ensures notes { OnOk result (Notes merged.now (get same_target waits.new) (get same_disk devices.new)) }
+    ensures unique { OnOk result (IsUnique same_disk devices.new) }
 {
     for event in merged {
         note(waits, devices, act_of(event), event.key)?;
     }
     Ok(())
+}
+
+// The devices of the table, in the order in which they are listed.
+fn in_order(alloc: Global, noted: &Devices) -> Result<Vec<Device>, OutOfMemory>
+    ensures permutation { IfOk result (λ devices. IsPermutation (values noted.now) devices.items) }
+    ensures order { IfOk result (λ devices. AllPairs IsNotAfter devices.items) }
+{
+    let mut devices = as_noted(alloc, noted)?;
+    sort_devices(&mut devices);
+    Ok(devices)
+}
+
+fn as_noted(alloc: Global, noted: &Devices) -> Result<Vec<Device>, OutOfMemory>
+    ensures { IfOk result (λ devices. devices.items ≡ values noted.now) }
+{
+    let devices = noted.values().copied().collect(alloc)?;
+    Ok(devices)
 }
 
 fn sort_devices(devices: &mut [Device])
