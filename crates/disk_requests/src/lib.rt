@@ -3,10 +3,12 @@
 
 mod act;
 mod device;
+mod laws;
 mod notes;
 mod table;
 #[cfg(test)]
 mod tests;
 
 pub use device::{DIGITS, Device};
+pub use laws::one_answer;
 pub use table::{DiskTable, requests};
