@@ -59,15 +59,3 @@ make_output number hosts rounds found s text traces is = record {
   sends_first = sends_first (made_files number hosts rounds) (made_folders hosts) 1000 found s traces;
   is_text = is;
 }
-
-pub output_of_make : (o : Option Files) (command : PlainCommand) (number hosts rounds : ℕ) → command ≡ Make number hosts rounds → (text : List ℕ) → IsMakeOutput number hosts rounds text → IfSome o (λ files. IsOutput command files text)
-output_of_make None command number hosts rounds is text h = tt
-output_of_make (Some files) command number hosts rounds is text h = subst (λ k. IsOutput k files text) (sym is) h
-
-refused_at : (o : Option Files) (number hosts rounds : ℕ) → IfSome o (λ files. (r : Refusal) → MakeRefuses number hosts rounds r → MakeRefuses number hosts rounds r)
-refused_at None number hosts rounds = tt
-refused_at (Some files) number hosts rounds = λ r h. h
-
-pub refusal_of_make : (command : PlainCommand) (number hosts rounds : ℕ) → command ≡ Make number hosts rounds → (seen : StoreSeen) (status : Status) → FailsOf (MakeRefuses number hosts rounds) status → FailsBy (Refuses command) seen status
-refusal_of_make command number hosts rounds is seen status h =
-    subst (λ k. FailsBy (Refuses k) seen status) (sym is) (fails_of (λ files r. MakeRefuses number hosts rounds r) (MakeRefuses number hosts rounds) seen status (refused_at seen.files number hosts rounds) h)
