@@ -115,6 +115,13 @@ impl Tree {
         self.nodes.shape(self.root).level + 1
     }
 
+    /// The nodes, by their numbers. A command reads none of them so: it is for who writes or looks into a tree.
+    pub fn nodes(&self) -> &Nodes
+        ensures { result.now.nodes ≡ self.now.nodes }
+    {
+        &self.nodes
+    }
+
     /// The way from the root to the leaf whose range holds an instant, in ns. It takes no memory.
     pub fn path(&self, t: u64) -> Visit<'_>
         requires { t < TIME_END }
