@@ -1,6 +1,5 @@
 -- What is read of made traces.
-use Rattle.std.proofs.Common.{◌≡◌, inl, inr, ℕ, ◌+◌, suc, List, [], ◌∷◌, ◌++◌, Option, Some, None, sym, ap, subst, subst₂, arith}
-use Rattle.std.specs.Prelude.{IfSome}
+use Rattle.std.proofs.Common.{◌≡◌, inl, inr, ℕ, ◌+◌, suc, List, [], ◌∷◌, ◌++◌, Option, Some, ap, subst₂, arith}
 use Rattle.std.specs.Fmt.{decimal}
 use Rattle.ht_outside.specs.Faults.{HasRisen}
 use Rattle.ht_outside.specs.Files.{Files}
@@ -8,18 +7,13 @@ use Rattle.trace_types.specs.declared.host.HostEvents.{HostEvents}
 use Rattle.trace_gen.specs.Folders.{AreSame}
 use Rattle.host_sync.specs.Synced.{Synced}
 use Rattle.report_views.specs.Made.{made_text}
-use Rattle.command_words.specs.declared.command.PlainCommand.{PlainCommand}
-use Rattle.command_words.specs.declared.command.PlainCommand.TheVariants.{Make}
 use Rattle.hosttrace.specs.Clusters.{AreSyncedTraces}
 use Rattle.hosttrace.specs.Making.{IsMakeOutput, made_files, made_folders}
-use Rattle.hosttrace.specs.Means.{IsOutput}
-use Rattle.hosttrace.specs.Refusals.{ClusterRefuses, MakeRefuses, Refuses}
-use Rattle.hosttrace.specs.Seen.{FailsBy, FailsOf, StoreSeen}
-use Rattle.hosttrace.specs.declared.status.Refusal.{Refusal}
+use Rattle.hosttrace.specs.Refusals.{ClusterRefuses, MakeRefuses}
+use Rattle.hosttrace.specs.Seen.{FailsBy, FailsOf}
 use Rattle.hosttrace.specs.declared.status.Status.{Status}
 use Rattle.hosttrace.specs.declared.status.Status.TheVariants.{Done, Usage, Refused, ReadFault, WriteFault, NoMemory}
 use Rattle.hosttrace.proofs.Clustered.{in_order, sends_first}
-use Rattle.hosttrace.proofs.Fails.{fails_of}
 
 -- one folder more
 pub folders_next : (host : ℕ) → made_folders (host + 1) ≡ made_folders host ++ decimal host ∷ []

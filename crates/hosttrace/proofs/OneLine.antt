@@ -1,5 +1,5 @@
 -- Bytes that are no event list have one first bad line, and no bad line comes first where events are too many.
-use Rattle.std.proofs.Common.{◌≡◌, ◌≢◌, ◌⊎◌, ◌∙◌, ◌≤◌, inl, inr, ℕ, suc, List, [], ◌∷◌, ◌++◌, length, refl, sym, ap, ap₂, subst, append_assoc, append-nil, arith}
+use Rattle.std.proofs.Common.{◌≡◌, ◌⊎◌, ◌∙◌, ◌≤◌, inl, inr, ℕ, suc, List, [], ◌∷◌, ◌++◌, length, refl, sym, ap, ap₂, subst, append_assoc, append-nil, arith}
 use Rattle.std.specs.Prelude.{flat_map}
 use Rattle.std.specs.List.{AllByRecursion}
 use Rattle.std.proofs.lemmas.Grind.{flat_map-append}
@@ -8,7 +8,7 @@ use Rattle.event_list.specs.Lines.{AreLines, EndsBehind, IsCrowded, IsFirstBad, 
 use Rattle.event_list.specs.Order.{RiseFrom}
 use Rattle.event_list.specs.declared.parsed_line.ParsedLine.{ParsedLine}
 use Rattle.event_list.proofs.OneList.{one_list}
-use Rattle.event_list.proofs.Reading.{line_and, nonempty}
+use Rattle.event_list.proofs.Reading.{line_and}
 use Rattle.event_list.proofs.Spelling.{are_words, joined_no_end}
 use Rattle.std.specs.List.{join_with_byte}
 
@@ -78,7 +78,7 @@ no_longer text ts us front rest ends are e = by (no_more_or ts us ends.rest rest
         let rises = rise_front 0 ts on.line on.more (subst (λ vs. RiseFrom 0 (events_of vs)) on.lines are.order) in
         let each = each_front ts on.line on.more (subst (AllByRecursion IsParsedLine) on.lines are.each) in
         let spelling : ends.front ++ parsed_text on.line ≡ flat_map parsed_text (ts ++ on.line ∷ []) =
-            ap₂ (λ a b. a ++ b) ends.lines.spelling (sym (append-nil (parsed_text on.line))) ∙ sym (flat_map-append parsed_text ts (on.line ∷ [])) in
+        ap₂ (λ a b. a ++ b) ends.lines.spelling (sym (append-nil (parsed_text on.line))) ∙ sym (flat_map-append parsed_text ts (on.line ∷ [])) in
         absurd (ends.no_more on.line on.after on.text (record { spelling = spelling; each = each; order = rises }))
 
 -- ---- one bad line

@@ -1,15 +1,15 @@
 -- Two refusals of one command over the same files are one.
-use Rattle.std.proofs.Common.{◌≡◌, ◌⊎◌, ◌∙◌, ◌+◌, ◌≤◌, inl, inr, ℕ, List, [], ◌∷◌, length, map, codes, sym, ap, subst, arith}
+use Rattle.std.proofs.Common.{◌≡◌, ◌∙◌, ◌+◌, inl, inr, ℕ, List, [], ◌∷◌, length, map, sym, ap, subst, arith}
 use Rattle.ht_outside.specs.Files.{Files, bytes_of}
 use Rattle.trace_metadata.proofs.OneRefusal.{one_refusal as one_cause}
-use Rattle.decode_pool.specs.Limits.{MAX_PACKETS, packet_count}
+use Rattle.decode_pool.specs.Limits.{packet_count}
 use Rattle.decode_pool.specs.declared.hosts.HostFiles.{HostFiles}
 use Rattle.type_scope.specs.Traces.{trace}
 use Rattle.command_words.specs.declared.command.PlainCommand.{PlainCommand}
 use Rattle.command_words.specs.declared.command.PlainCommand.TheVariants.{Check, Report, Events, State, Ask, Path, Make}
 use Rattle.command_words.specs.declared.command.Input.{Input}
 use Rattle.command_words.specs.declared.command.Input.TheVariants as input
-use Rattle.hosttrace.specs.Folders.{FILES_LIMIT, MAX_HOSTS, HasFewNames, HasMetadata, metadata_of}
+use Rattle.hosttrace.specs.Folders.{metadata_of}
 use Rattle.hosttrace.specs.Making.{made_files, made_folders}
 use Rattle.hosttrace.specs.Refusals.{CheckRefuses, ClusterRefuses, FolderRefuses, FoldersRefuse, HostsRefuse, InputRefuses, LimitsRefuse, ListRefuses, MetadataRefuses, NamesRefuse, QuestionsRefuse, ReadingRefuses, Refuses, SizeRefuses, StreamRefuses, StreamsRefuse, TraceRefuses, TracesRefuse}
 use Rattle.hosttrace.specs.Streams.{AreHostsOf, folder_size, metadata_size, size_of}
@@ -20,7 +20,7 @@ use Rattle.hosttrace.proofs.RefusedFor.{LimitsCause, ListCause, NamesCause, Ques
 use Rattle.hosttrace.proofs.Clustered.{folders_of, traces_of}
 use Rattle.hosttrace.proofs.Complete.{few_and_many, good_crowd, good_folder, good_folders, good_host, good_hosts, good_input, good_names, good_stream, good_trace, good_traces}
 use Rattle.hosttrace.proofs.OneAsking.{one_bad_line as one_bad_question}
-use Rattle.hosttrace.proofs.OneCluster.{events_alike, packets_alike}
+use Rattle.hosttrace.proofs.OneCluster.{packets_alike}
 use Rattle.hosttrace.proofs.OneLine.{not_crowded, one_bad_line}
 use Rattle.hosttrace.proofs.OneOrder.{one_names}
 use Rattle.hosttrace.proofs.OneText.{good_placed, input_is_good}
