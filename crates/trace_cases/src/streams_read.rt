@@ -1,12 +1,11 @@
 //! What a file's packets show to a reader that passes fields over which no kind needs, or that has plans.
-ghost use Rattle.std.specs.Prelude.{◌≡◌, ◌≤◌, ◌^◌, IfOk, IfSome, length};
+ghost use Rattle.std.specs.Prelude.{◌≡◌, ◌≤◌, ◌^◌, length};
 ghost use Rattle.kernel_layout.specs.Tracepoints.{layout_of};
 ghost use Rattle.packet_decoder.specs.Pieces.{AllLieIn, LiesIn};
 
 use crate::streams_fields::write_event;
 use crate::streams_kinds::{names_of, write_kind, write_kinds};
 use anyhow::bail;
-use ctf_fields::RawEvent;
 use kernel_layout::{Layout, kind_from};
 use packet_decoder::{EventReader, Failure, PacketSpan, Piece, ReadEvent, cut};
 use std::alloc::{AllocError, Global};
@@ -27,8 +26,7 @@ pub enum Shown {
 // An event as the reader gave it, its kind, and whether it lacks a field.
 #[derive(Drop)]
 struct Seen {
-    raw: RawEvent,
-    fields_at: Option<u64>,
+    read: ReadEvent,
     kind: (KernelEvent, bool),
 }
 
@@ -165,53 +163,18 @@ fn events_in(
     let mut reader = EventReader::open_known(alloc, meta, layout.contexts(meta), file, span)?;
     let mut events = Vec::new(alloc);
     reader.plan_headers(alloc, layout.lone(meta))?;
-    while let Some(seen) = next_seen(alloc, meta, layout, &mut reader)? {
-        if let Err(full) = events.push(seen) {
+    while let Some(read) = reader.next_event_of(alloc, layout.skips(meta))? {
+        let kind = kind_from(meta, layout, &read.raw, reader.bits(), read.fields_at);
+        if let Err(full) = events.push(Seen { read, kind }) {
             return Err(AllocError::from(full).into());
         }
     }
     Ok(events)
 }
 
-// The next event. What the reader gives is taken apart at once: a proof about letting go of it as a whole takes a minute.
-fn next_seen(
-    alloc: Global,
-    meta: &TraceMeta,
-    layout: &Layout,
-    reader: &mut EventReader<'_>,
-) -> Result<Option<Seen>, Failure>
-    requires layout { layout.now ≡ layout_of meta.now }
-    requires reader { reader.old.within.meta ≡ meta.now }
-    ensures within { IfOk result (λ next. IfSome next (λ _. reader.new.within ≡ reader.old.within)) }
-{
-    match reader.next_event_of(alloc, layout.skips(meta))? {
-        Some(read) => Ok(Some(seen_of(meta, layout, reader, read))),
-        None => Ok(None),
-    }
-}
-
-fn seen_of(
-    meta: &TraceMeta,
-    layout: &Layout,
-    reader: &mut EventReader<'_>,
-    read: ReadEvent,
-) -> Seen
-    requires layout { layout.now ≡ layout_of meta.now }
-    requires reader { reader.old.within.meta ≡ meta.now }
-    ensures reader { reader.new ≡ reader.old }
-{
-    let ReadEvent { raw, fields_at } = read;
-    let kind = kind_from(meta, layout, &raw, reader.bits(), fields_at);
-    Seen {
-        raw,
-        fields_at,
-        kind,
-    }
-}
-
 fn write_kept(meta: &TraceMeta, events: &[Seen], out: &mut Vec<u8>) -> anyhow::Result<()> {
     for event in events {
-        write_event(meta, &event.raw, out)?;
+        write_event(meta, &event.read.raw, out)?;
     }
     Ok(())
 }
@@ -219,10 +182,10 @@ fn write_kept(meta: &TraceMeta, events: &[Seen], out: &mut Vec<u8>) -> anyhow::R
 // The first bit of an event's fields stands before its kind where they were passed over.
 fn write_placed(names: &[Text], events: &[Seen], out: &mut Vec<u8>) -> anyhow::Result<()> {
     for event in events {
-        if let Some(bit) = event.fields_at {
+        if let Some(bit) = event.read.fields_at {
             write!(out, "at {bit}: ")?;
         }
-        write_kind(names, &event.raw, event.kind, out)?;
+        write_kind(names, &event.read.raw, event.kind, out)?;
     }
     Ok(())
 }
