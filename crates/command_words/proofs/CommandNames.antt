@@ -4,7 +4,7 @@ use Rattle.command_words.specs.CommandNames.{name_word}
 use Rattle.command_words.specs.Shapes.{Shape}
 use Rattle.command_words.specs.Words.{IsAsked, command_name}
 use Rattle.command_words.specs.declared.command.PlainCommand.{PlainCommand}
-use Rattle.command_words.specs.declared.command.PlainCommand.TheVariants.{Check, Report, Events, State, Ask, Path, Make}
+use Rattle.command_words.specs.declared.command.PlainCommand.TheVariants.{Check, Report, Events, State, Ask, Path, Make, Range, Disks}
 use Rattle.command_words.specs.declared.command_name.CommandName.{CommandName}
 use Rattle.command_words.specs.declared.command_name.CommandName.TheVariants as name
 
@@ -16,6 +16,8 @@ named (State source at) = (name.State, refl)
 named (Ask source questions once) = (name.Ask, refl)
 named (Path source host tid from to) = (name.Path, refl)
 named (Make number hosts rounds) = (name.Make, refl)
+named (Range source from to path) = (name.Range, refl)
+named (Disks source) = (name.Disks, refl)
 
 -- where the first positional word names no command, nothing is asked
 pub asks_none : (s : Shape) (word : List ℕ) (words : List (List ℕ)) → s.positional ≡ word ∷ words → ((n : CommandName) → word ≢ name_word n) → (c : PlainCommand) → IsAsked s c → ⊥

@@ -46,6 +46,7 @@ picked n ((m, Some v) ∷ rest) tail h = by (bytes_eq (name_text m) (name_text n
 not_for_words : (n : OptionName) (xs : List Text) → first_of (name_text n) (words_rows xs) ≡ None
 not_for_words n [] = refl
 not_for_words name.At (x ∷ xs) = refl
+not_for_words name.Attribute (x ∷ xs) = refl
 not_for_words name.Drift (x ∷ xs) = refl
 not_for_words name.From (x ∷ xs) = refl
 not_for_words name.Host (x ∷ xs) = refl
@@ -61,6 +62,7 @@ not_for_words name.Workers (x ∷ xs) = refl
 
 abbrev pub value_in : OptionName → Shape → Option Text
 value_in name.At s = s.at
+value_in name.Attribute s = s.attribute
 value_in name.Drift s = s.drift
 value_in name.From s = s.from
 value_in name.Host s = s.host
@@ -76,6 +78,7 @@ value_in name.Workers s = s.workers
 
 pick_is : (n : OptionName) (s : Shape) → pick n (slots s) ≡ value_in n s
 pick_is name.At s = or_none s.at
+pick_is name.Attribute s = or_none s.attribute
 pick_is name.Drift s = or_none s.drift
 pick_is name.From s = or_none s.from
 pick_is name.Host s = or_none s.host
@@ -114,6 +117,7 @@ found_is f s e =
     let value : (n : OptionName) → value_in n s ≡ first_value f (name_text n) = λ n. sym (first_value-rows f (name_text n) ∙ (ap (first_of (name_text n)) e ∙ value_is n s)) in
     record {
       at_is = value name.At;
+      attribute_is = value name.Attribute;
       drift_is = value name.Drift;
       from_is = value name.From;
       host_is = value name.Host;
@@ -132,6 +136,7 @@ found_is f s e =
 pub found_once : (f : Found) (r s : Shape) → IsFound f r → IsFound f s → r ≡ s
 found_once f r s h g =
     let at : r.at ≡ s.at = h.at_is ∙ sym g.at_is in
+    let attribute : r.attribute ≡ s.attribute = h.attribute_is ∙ sym g.attribute_is in
     let drift : r.drift ≡ s.drift = h.drift_is ∙ sym g.drift_is in
     let from : r.from ≡ s.from = h.from_is ∙ sym g.from_is in
     let host : r.host ≡ s.host = h.host_is ∙ sym g.host_is in
@@ -145,4 +150,4 @@ found_once f r s h g =
     let to : r.to ≡ s.to = h.to_is ∙ sym g.to_is in
     let workers : r.workers ≡ s.workers = h.workers_is ∙ sym g.workers_is in
     let positional : r.positional ≡ s.positional = h.positional_are ∙ sym g.positional_are in
-    λ i. record { at = at i; drift = drift i; from = from i; host = host i; hosts = hosts i; list = list i; number = number i; once = once i; questions = questions i; rounds = rounds i; tid = tid i; to = to i; workers = workers i; positional = positional i }
+    λ i. record { at = at i; attribute = attribute i; drift = drift i; from = from i; host = host i; hosts = hosts i; list = list i; number = number i; once = once i; questions = questions i; rounds = rounds i; tid = tid i; to = to i; workers = workers i; positional = positional i }

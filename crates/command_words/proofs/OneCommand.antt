@@ -1,15 +1,17 @@
 -- Words are one command at most.
-use Rattle.std.proofs.Common.{◌≡◌, ℕ, ◌<◌, ◌^◌, true, List, [], ◌∷◌, Option, Some, None, drop, get_or, rules, refl, sym, ap, ap₂, ◌∙◌, subst, arith}
+use Rattle.std.proofs.Common.{◌≡◌, ℕ, ◌+◌, ◌*◌, ◌<◌, ◌^◌, true, List, [], ◌∷◌, Option, Some, None, drop, get_or, rules, refl, sym, ap, ap₂, ◌∙◌, subst, arith}
 use Rattle.std.specs.Prelude.{◌↔◌}
 use Rattle.trace_types.proofs.Decimals.{same_number, below_wide}
+use Rattle.trace_types.proofs.PathWords.{one_path}
+use Rattle.trace_types.specs.declared.path.Path.{Path as AttributePath}
 use Rattle.command_words.specs.Parts.{Part, same_name}
 use Rattle.command_words.specs.Shapes.{Gives, HaveShape, Shape, option_list}
-use Rattle.command_words.specs.Words.{Asks, GivesDrift, GivesInput, IsAsked, IsCommand, IsDrift, command_name}
+use Rattle.command_words.specs.Words.{Asks, GivesAttribute, GivesDrift, GivesInput, IsAsked, IsCommand, IsDrift, command_name}
 use Rattle.command_words.specs.declared.option_name.OptionName.{OptionName}
 use Rattle.command_words.specs.declared.command.Command.{Command}
 use Rattle.command_words.specs.declared.command.Command.TheVariants.{Plain}
 use Rattle.command_words.specs.declared.command.PlainCommand.{PlainCommand}
-use Rattle.command_words.specs.declared.command.PlainCommand.TheVariants.{Check, Report, Events, State, Ask, Path, Make}
+use Rattle.command_words.specs.declared.command.PlainCommand.TheVariants.{Check, Report, Events, State, Ask, Path, Make, Range, Disks}
 use Rattle.command_words.specs.declared.command.Input.{Input}
 use Rattle.command_words.specs.declared.command.Input.TheVariants as input
 use Rattle.command_words.proofs.AllParts.{one_list}
@@ -26,6 +28,7 @@ same_value (Some u) (Some v) vs e f = ap (λ l. Some (get_or l 0 [])) (sym e ∙
 shape_of_parts : (ps : List Part) (s r : Shape) → HaveShape ps s → HaveShape ps r → s ≡ r
 shape_of_parts ps s r h g =
     let at = same_value s.at r.at _ h.at_is g.at_is in
+    let attribute = same_value s.attribute r.attribute _ h.attribute_is g.attribute_is in
     let drift = same_value s.drift r.drift _ h.drift_is g.drift_is in
     let from = same_value s.from r.from _ h.from_is g.from_is in
     let host = same_value s.host r.host _ h.host_is g.host_is in
@@ -39,7 +42,7 @@ shape_of_parts ps s r h g =
     let to = same_value s.to r.to _ h.to_is g.to_is in
     let workers = same_value s.workers r.workers _ h.workers_are g.workers_are in
     let positional : s.positional ≡ r.positional = sym h.positional_are ∙ g.positional_are in
-    λ i. record { at = at i; drift = drift i; from = from i; host = host i; hosts = hosts i; list = list i; number = number i; once = once i; questions = questions i; rounds = rounds i; tid = tid i; to = to i; workers = workers i; positional = positional i }
+    λ i. record { at = at i; attribute = attribute i; drift = drift i; from = from i; host = host i; hosts = hosts i; list = list i; number = number i; once = once i; questions = questions i; rounds = rounds i; tid = tid i; to = to i; workers = workers i; positional = positional i }
 
 pub one_shape : (ws : List (List ℕ)) (s r : Shape) → Gives ws s → Gives ws r → s ≡ r
 one_shape ws s r h g = shape_of_parts g.parts s r (subst (λ (ps : List Part). HaveShape ps s) (one_list ws h.parts g.parts h.are_parts g.are_parts) h.have_shape) g.have_shape
@@ -58,8 +61,13 @@ one_input s ws (input.List file) (input.Folders folders drift) h g = let no : So
 one_input s ws (input.Folders folders drift) (input.List file) h g = let no : Some file ≡ None = sym g.0 ∙ h.0 in absurd (cc)
 one_input s ws (input.Folders folders drift) (input.Folders others rate) h g = ap₂ (λ fs d. input.Folders fs d) (h.1 ∙ sym g.1) (one_drift s.drift drift rate h.3 g.3)
 
+one_attribute : (given : Option (List ℕ)) (p q : AttributePath) → GivesAttribute given p → GivesAttribute given q → p ≡ q
+one_attribute None p q h g = absurd h
+one_attribute (Some text) p q h g = one_path text p q h g
+
+-- the first and the third letter of a command's word
 abbrev letter : PlainCommand → ℕ
-letter c = get_or (command_name c) 0 0
+letter c = get_or (command_name c) 0 0 * 256 + get_or (command_name c) 2 0
 
 asked_once : (s : Shape) (ws : List (List ℕ)) (c d : PlainCommand) → letter c ≡ letter d → Asks s ws c → Asks s ws d → c ≡ d
 asked_once s ws (Check folders) (Check others) e h g = ap Check (h.folders_are ∙ sym g.folders_are)
@@ -85,13 +93,20 @@ asked_once s ws (Make number hosts rounds) (Make other many times) e h g =
     let counts = one_number s.hosts hosts many 65 (omega arith) h.gives_sizes.hosts_is g.gives_sizes.hosts_is (hosts_low h.gives_sizes.are_sizes) (hosts_low g.gives_sizes.are_sizes) in
     let lengths = one_number s.rounds rounds times 100001 (omega arith) h.gives_sizes.rounds_is g.gives_sizes.rounds_is (rounds_low h.gives_sizes.are_sizes) (rounds_low g.gives_sizes.are_sizes) in
     λ i. Make (numbers i) (counts i) (lengths i)
+asked_once s ws (Range source from to path) (Range other start end attribute) e h g =
+    let sources = one_input s ws source other h.source_is g.source_is in
+    let starts = one_instant s.from from start h.from_is g.from_is (omega (arith, h.order, h.to_below)) (omega (arith, g.order, g.to_below)) in
+    let ends = one_instant s.to to end h.to_is g.to_is h.to_below g.to_below in
+    let paths = one_attribute s.attribute path attribute h.attribute_is g.attribute_is in
+    λ i. Range (sources i) (starts i) (ends i) (paths i)
+asked_once s ws (Disks source) (Disks other) e h g = ap Disks (one_input s ws source other h.source_is g.source_is)
 asked_once s ws c d e h g = absurd (omega (arith, e))
 
 pub one_plain : (s : Shape) (c d : PlainCommand) → IsAsked s c → IsAsked s d → c ≡ d
 one_plain s c d h g =
     let same : command_name c ∷ h.input ≡ command_name d ∷ g.input = sym h.positional_are ∙ g.positional_are in
     let rest : h.input ≡ g.input = ap (drop 1) same in
-    asked_once s g.input c d (ap (λ l. get_or (get_or l 0 []) 0 0) same) (subst (λ (ws : List (List ℕ)). Asks s ws c) rest h.asks) g.asks
+    asked_once s g.input c d (ap (λ l. get_or (get_or l 0 []) 0 0 * 256 + get_or (get_or l 0 []) 2 0) same) (subst (λ (ws : List (List ℕ)). Asks s ws c) rest h.asks) g.asks
 
 pub same_command : (ws : List (List ℕ)) (c d : Command) → IsCommand ws c → IsCommand ws d → c ≡ d
 same_command ws (Plain c) (Plain d) h g =

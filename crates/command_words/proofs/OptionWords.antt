@@ -22,6 +22,7 @@ plain (b ∷ bs) e = by (b == 61) refl e (plain bs)
 
 plain_name : (n : OptionName) → AllByRecursion (λ b. b ≢ 61) (name_text n)
 plain_name name.At = plain (name_text name.At) refl
+plain_name name.Attribute = plain (name_text name.Attribute) refl
 plain_name name.Drift = plain (name_text name.Drift) refl
 plain_name name.From = plain (name_text name.From) refl
 plain_name name.Host = plain (name_text name.Host) refl
@@ -50,6 +51,7 @@ other_name front v h none n None e =
 -- the first two letters of a name and its fifth
 abbrev letters : OptionName → ℕ
 letters name.At = 6386688
+letters name.Attribute = 6386793
 letters name.Drift = 6582900
 letters name.From = 6713856
 letters name.Host = 6844160
@@ -72,6 +74,7 @@ before_equals (b ∷ bs) = cond (b == 61) [] (b ∷ before_equals bs)
 
 same_letters : (n m : OptionName) → letters n ≡ letters m → n ≡ m
 same_letters name.At name.At e = refl
+same_letters name.Attribute name.Attribute e = refl
 same_letters name.Drift name.Drift e = refl
 same_letters name.From name.From e = refl
 same_letters name.Host name.Host e = refl
@@ -88,6 +91,7 @@ same_letters n m e = absurd (omega arith)
 
 letters_are : (n : OptionName) (a : Option (List ℕ)) → first_letters (before_equals (name_text n ++ attached a)) ≡ letters n
 letters_are name.At None = refl
+letters_are name.Attribute None = refl
 letters_are name.Drift None = refl
 letters_are name.From None = refl
 letters_are name.Host None = refl
@@ -101,6 +105,7 @@ letters_are name.Tid None = refl
 letters_are name.To None = refl
 letters_are name.Workers None = refl
 letters_are name.At (Some v) = refl
+letters_are name.Attribute (Some v) = refl
 letters_are name.Drift (Some v) = refl
 letters_are name.From (Some v) = refl
 letters_are name.Host (Some v) = refl
@@ -120,6 +125,7 @@ after_equals (b ∷ bs) = cond (b == 61) (Some bs) (after_equals bs)
 
 value_is : (n : OptionName) (a : Option (List ℕ)) → after_equals (name_text n ++ attached a) ≡ a
 value_is name.At None = refl
+value_is name.Attribute None = refl
 value_is name.Drift None = refl
 value_is name.From None = refl
 value_is name.Host None = refl
@@ -133,6 +139,7 @@ value_is name.Tid None = refl
 value_is name.To None = refl
 value_is name.Workers None = refl
 value_is name.At (Some v) = refl
+value_is name.Attribute (Some v) = refl
 value_is name.Drift (Some v) = refl
 value_is name.From (Some v) = refl
 value_is name.Host (Some v) = refl
@@ -157,6 +164,7 @@ dashes_alone n a e = by n (ap (λ l. first_letters (before_equals (drop 2 l))) e
   where
     by : (n : OptionName) → 0 ≡ letters n → ⊥
     by name.At e = absurd (omega arith)
+    by name.Attribute e = absurd (omega arith)
     by name.Drift e = absurd (omega arith)
     by name.From e = absurd (omega arith)
     by name.Host e = absurd (omega arith)

@@ -36,6 +36,7 @@ steps w after word rest turn to more = one_step w word rest ∙ both_true _ _ tu
 option_turn : (n : OptionName) (v : Text) (rows : List Row) → has_row (name_text n) rows ≡ false → turn_passes top names (between rows) (option_word n (Some v)) ≡ true
 unfolding clap_on_literals
 option_turn name.At v rows e = ap (λ b. ((not b || false) && true) && true) e
+option_turn name.Attribute v rows e = ap (λ b. ((not b || false) && true) && true) e
 option_turn name.Drift v rows e = ap (λ b. ((not b || false) && true) && true) e
 option_turn name.From v rows e = ap (λ b. ((not b || false) && true) && true) e
 option_turn name.Host v rows e = ap (λ b. ((not b || false) && true) && true) e

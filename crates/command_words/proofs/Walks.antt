@@ -105,6 +105,7 @@ between rows = record { held = record { rows = rows; pending = None; skip = 0 };
 one_option : (n : OptionName) (v : Text) (rows : List Row) → walked rules names (between rows) (option_word n (Some v)) ≡ between (used (option_rule (name_text n)) (v ∷ []) rows)
 unfolding clap_on_literals
 one_option name.At v rows = refl
+one_option name.Attribute v rows = refl
 one_option name.Drift v rows = refl
 one_option name.From v rows = refl
 one_option name.Host v rows = refl
@@ -181,6 +182,7 @@ whole_walk ss xs a =
 -- ---- the matches
 pub not_words : (n : OptionName) → bytes_eq (name_text n) (codes "words") ≡ false
 not_words name.At = refl
+not_words name.Attribute = refl
 not_words name.Drift = refl
 not_words name.From = refl
 not_words name.Host = refl

@@ -23,7 +23,7 @@ bare_app = on_top (λ s. record s { disable_help_flag = true; no_binary_name = t
 
 -- with the options up to `list` (this project's own)
 abbrev pub first_app : App
-first_app = with_rule (with_rule (with_rule (with_rule (with_rule (with_rule bare_app (option_rule (name_text name.At))) (option_rule (name_text name.Drift))) (option_rule (name_text name.From))) (option_rule (name_text name.Host))) (option_rule (name_text name.Hosts))) (option_rule (name_text name.List))
+first_app = with_rule (with_rule (with_rule (with_rule (with_rule (with_rule (with_rule bare_app (option_rule (name_text name.At))) (option_rule (name_text name.Attribute))) (option_rule (name_text name.Drift))) (option_rule (name_text name.From))) (option_rule (name_text name.Host))) (option_rule (name_text name.Hosts))) (option_rule (name_text name.List))
 
 -- with those up to `rounds` (this project's own)
 abbrev pub middle_app : App
@@ -36,6 +36,7 @@ app = with_rule (with_rule (with_rule (with_rule middle_app (option_rule (name_t
 -- options and positional words are those that were found (this project's own)
 pub record IsFound (found : Found) (shape : Shape) : Type 0 where
   pub at_is : shape.at ≡ first_value found (name_text name.At)
+  pub attribute_is : shape.attribute ≡ first_value found (name_text name.Attribute)
   pub drift_is : shape.drift ≡ first_value found (name_text name.Drift)
   pub from_is : shape.from ≡ first_value found (name_text name.From)
   pub host_is : shape.host ≡ first_value found (name_text name.Host)

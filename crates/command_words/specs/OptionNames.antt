@@ -6,6 +6,7 @@ use Rattle.command_words.specs.declared.option_name.OptionName.TheVariants as na
 -- the name of an option (this project's own)
 abbrev pub name_text : OptionName → List ℕ
 name_text name.At = codes "at"
+name_text name.Attribute = codes "attribute"
 name_text name.Drift = codes "drift"
 name_text name.From = codes "from"
 name_text name.Host = codes "host"
@@ -22,6 +23,7 @@ name_text name.Workers = codes "workers"
 -- whether an option has a value; else it is a flag (this project's own)
 abbrev pub takes_value : OptionName → Bool
 takes_value name.At = true
+takes_value name.Attribute = true
 takes_value name.Drift = true
 takes_value name.From = true
 takes_value name.Host = true

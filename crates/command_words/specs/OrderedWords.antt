@@ -9,6 +9,7 @@ use Rattle.command_words.specs.declared.option_name.OptionName.TheVariants as na
 abbrev pub slots : Shape → List (OptionName × Option (List ℕ))
 slots shape =
     (name.At, shape.at) ∷
+    (name.Attribute, shape.attribute) ∷
     (name.Drift, shape.drift) ∷
     (name.From, shape.from) ∷
     (name.Host, shape.host) ∷

@@ -32,6 +32,7 @@ positional_words (p ∷ ps) = option_list (word_if p.option p.text) ++ positiona
 -- the value of each option that is given, a flag's being empty, and the positional words (this project's own)
 pub record Shape : Type 0 where
   pub at : Option (List ℕ)
+  pub attribute : Option (List ℕ)
   pub drift : Option (List ℕ)
   pub from : Option (List ℕ)
   pub host : Option (List ℕ)
@@ -49,6 +50,7 @@ pub record Shape : Type 0 where
 -- parts give each option once at most, and no others than these values and words (this project's own)
 pub record HaveShape (parts : List Part) (shape : Shape) : Type 0 where
   pub at_is : values name.At parts ≡ option_list shape.at
+  pub attribute_is : values name.Attribute parts ≡ option_list shape.attribute
   pub drift_is : values name.Drift parts ≡ option_list shape.drift
   pub from_is : values name.From parts ≡ option_list shape.from
   pub host_is : values name.Host parts ≡ option_list shape.host

@@ -1,12 +1,14 @@
 -- The command set (this project's own).
 use Rattle.std.specs.Prelude.{◌≡◌, ◌≢◌, ℕ, ◌^◌, ◌<◌, ◌≤◌, Bool, true, false, List, [], ◌∷◌, Option, Some, None, is_some, length}
 use Rattle.std.specs.Fmt.{decimal}
+use Rattle.trace_types.specs.Paths.{SpellsPath, IsPath as IsAttributePath}
+use Rattle.trace_types.specs.declared.path.Path.{Path as AttributePath}
 use Rattle.command_words.specs.CommandNames.{name_word}
 use Rattle.command_words.specs.Shapes.{Gives, Shape}
 use Rattle.command_words.specs.declared.command.Command.{Command}
 use Rattle.command_words.specs.declared.command.Command.TheVariants.{Plain}
 use Rattle.command_words.specs.declared.command.PlainCommand.{PlainCommand}
-use Rattle.command_words.specs.declared.command.PlainCommand.TheVariants.{Check, Report, Events, State, Ask, Path, Make}
+use Rattle.command_words.specs.declared.command.PlainCommand.TheVariants.{Check, Report, Events, State, Ask, Path, Make, Range, Disks}
 use Rattle.command_words.specs.declared.command_name.CommandName.TheVariants as name
 use Rattle.command_words.specs.declared.command.Input.{Input}
 use Rattle.command_words.specs.declared.command.Input.TheVariants as input
@@ -54,7 +56,7 @@ IsUnmade shape = (shape.number ≡ None) × (shape.hosts ≡ None) × (shape.rou
 
 -- none but `--drift` is given (this project's own)
 abbrev pub IsBare : Shape → Type 0
-IsBare shape = (shape.at ≡ None) × (shape.list ≡ None) × IsUnasked shape × HasNoWindow shape × IsUnmade shape
+IsBare shape = (shape.at ≡ None) × (shape.list ≡ None) × (shape.attribute ≡ None) × IsUnasked shape × HasNoWindow shape × IsUnmade shape
 
 -- `check`, which has no options (this project's own)
 pub record IsCheck (shape : Shape) (words folders : List (List ℕ)) : Type 0 where
@@ -78,6 +80,7 @@ pub record IsState (shape : Shape) (words : List (List ℕ)) (source : Input) (a
   pub is_unasked : IsUnasked shape
   pub no_window : HasNoWindow shape
   pub is_unmade : IsUnmade shape
+  pub no_attribute : shape.attribute ≡ None
 
 -- `ask`, with `--questions FILE`, `--workers` and `--once` (this project's own)
 pub record IsAsk (shape : Shape) (words : List (List ℕ)) (source : Input) (questions : List ℕ) (once : Bool) : Type 0 where
@@ -89,6 +92,7 @@ pub record IsAsk (shape : Shape) (words : List (List ℕ)) (source : Input) (que
   pub no_at : shape.at ≡ None
   pub no_window : HasNoWindow shape
   pub is_unmade : IsUnmade shape
+  pub no_attribute : shape.attribute ≡ None
 
 -- a host from 0 to 63, a thread from 1 to 2^31 - 1, and two instants from 0 to 2^62 - 1, one before the other (this project's own)
 pub record IsWindow (host tid from to : ℕ) : Type 0 where
@@ -113,6 +117,7 @@ pub record IsPath (shape : Shape) (words : List (List ℕ)) (source : Input) (ho
   pub no_at : shape.at ≡ None
   pub is_unasked : IsUnasked shape
   pub is_unmade : IsUnmade shape
+  pub no_attribute : shape.attribute ≡ None
 
 -- a number from 0 to 2^64 - 1, from 1 to 64 hosts, and from 1 to 100,000 rounds (this project's own)
 pub record AreSizes (number hosts rounds : ℕ) : Type 0 where
@@ -138,6 +143,34 @@ pub record IsMake (shape : Shape) (words : List (List ℕ)) (number hosts rounds
   pub no_drift : shape.drift ≡ None
   pub is_unasked : IsUnasked shape
   pub no_window : HasNoWindow shape
+  pub no_attribute : shape.attribute ≡ None
+
+-- `--attribute PATH`, which is the text of an attribute's path (this project's own)
+abbrev pub GivesAttribute : Option (List ℕ) → AttributePath → Type 0
+GivesAttribute None path = ⊥
+GivesAttribute (Some text) path = SpellsPath text path
+
+-- `range`, with `--from T`, `--to T` and `--attribute PATH`: two instants from 0 to 2^62 - 1, one before the other (this project's own)
+pub record IsRange (shape : Shape) (words : List (List ℕ)) (source : Input) (from to : ℕ) (path : AttributePath) : Type 0 where
+  pub from_is : shape.from ≡ Some (decimal from)
+  pub to_is : shape.to ≡ Some (decimal to)
+  pub order : from < to
+  pub to_below : to < 2 ^ 62
+  pub attribute_is : GivesAttribute shape.attribute path
+  pub source_is : GivesInput shape words source
+  pub no_at : shape.at ≡ None
+  pub no_thread : (shape.host ≡ None) × (shape.tid ≡ None)
+  pub is_unasked : IsUnasked shape
+  pub is_unmade : IsUnmade shape
+
+-- `disks`, which has no options but those of INPUT (this project's own)
+pub record IsDisks (shape : Shape) (words : List (List ℕ)) (source : Input) : Type 0 where
+  pub source_is : GivesInput shape words source
+  pub no_at : shape.at ≡ None
+  pub no_attribute : shape.attribute ≡ None
+  pub is_unasked : IsUnasked shape
+  pub no_window : HasNoWindow shape
+  pub is_unmade : IsUnmade shape
 
 -- the word of a command (this project's own)
 abbrev pub command_name : PlainCommand → List ℕ
@@ -148,6 +181,8 @@ command_name (State source at) = name_word name.State
 command_name (Ask source questions once) = name_word name.Ask
 command_name (Path source host tid from to) = name_word name.Path
 command_name (Make number hosts rounds) = name_word name.Make
+command_name (Range source from to path) = name_word name.Range
+command_name (Disks source) = name_word name.Disks
 
 -- options and the words after COMMAND are those of a command (this project's own)
 abbrev pub Asks : Shape → List (List ℕ) → PlainCommand → Type 0
@@ -158,6 +193,8 @@ Asks shape words (State source at) = IsState shape words source at
 Asks shape words (Ask source questions once) = IsAsk shape words source questions once
 Asks shape words (Path source host tid from to) = IsPath shape words source host tid from to
 Asks shape words (Make number hosts rounds) = IsMake shape words number hosts rounds
+Asks shape words (Range source from to path) = IsRange shape words source from to path
+Asks shape words (Disks source) = IsDisks shape words source
 
 -- the first positional word is COMMAND, the others are INPUT, and the options are the command's (this project's own)
 pub record IsAsked (shape : Shape) (command : PlainCommand) : Type 0 where
@@ -185,6 +222,13 @@ pub record HasPathRanges (source : Input) (host tid from to : ℕ) : Type 0 wher
   pub input_range : InputHasRange source
   pub is_window : IsWindow host tid from to
 
+-- an input with its drift, two instants in order, and an attribute's path (this project's own)
+pub record HasRangeRanges (source : Input) (from to : ℕ) (path : AttributePath) : Type 0 where
+  pub input_range : InputHasRange source
+  pub order : from < to
+  pub to_below : to < 2 ^ 62
+  pub is_path : IsAttributePath path
+
 -- the drift of a command over folders is one, a thread's window is one, and so are the sizes of made traces (this project's own)
 abbrev pub HasRanges : PlainCommand → Type 0
 HasRanges (Check folders) = Unit {0}
@@ -194,6 +238,8 @@ HasRanges (State source at) = InputHasRange source
 HasRanges (Ask source questions once) = InputHasRange source
 HasRanges (Path source host tid from to) = HasPathRanges source host tid from to
 HasRanges (Make number hosts rounds) = AreSizes number hosts rounds
+HasRanges (Range source from to path) = HasRangeRanges source from to path
+HasRanges (Disks source) = InputHasRange source
 
 -- the same of any command (this project's own)
 abbrev pub AreRanges : Command → Type 0

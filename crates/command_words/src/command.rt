@@ -1,6 +1,6 @@
 //! What the words ask for.
 use sqlite_items::Items;
-use trace_types::Text;
+use trace_types::{Path, Text};
 
 /// Where events come from.
 #[derive(Debug, Drop)]
@@ -54,6 +54,17 @@ pub enum PlainCommand {
         number: u64,
         hosts: u32,
         rounds: u32,
+    },
+    /// How the value of an attribute changed from `from` on up to `to`, in ns: `from` is before `to`, which is below 2^62.
+    Range {
+        input: Input,
+        from: u64,
+        to: u64,
+        path: Path,
+    },
+    /// How many requests each disk had, and how long they took.
+    Disks {
+        input: Input,
     },
 }
 

@@ -13,6 +13,8 @@ pub enum CommandName {
     Ask,
     Path,
     Make,
+    Range,
+    Disks,
 }
 
 /// The command with this word.
@@ -28,6 +30,8 @@ pub fn command_named(word: &[u8]) -> Option<CommandName>
         b"ask" => Some(CommandName::Ask),
         b"path" => Some(CommandName::Path),
         b"make" => Some(CommandName::Make),
+        b"range" => Some(CommandName::Range),
+        b"disks" => Some(CommandName::Disks),
         _ => None,
     }
 }

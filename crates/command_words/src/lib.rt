@@ -11,6 +11,7 @@ mod ordered;
 mod part;
 mod parts;
 mod path;
+mod range;
 mod shape;
 mod table;
 mod words;

@@ -31,7 +31,7 @@ pub fn read_make(shape: &Shape, words: &[&str]) -> Result<PlainCommand, WordsErr
     if !words.is_empty() || shape.at.is_some() || shape.list.is_some() || shape.drift.is_some() {
         return Err(WordsError::Usage);
     }
-    if !is_unasked(shape) || !has_no_window(shape) {
+    if shape.attribute.is_some() || !is_unasked(shape) || !has_no_window(shape) {
         return Err(WordsError::Usage);
     }
     match read_sizes(shape) {

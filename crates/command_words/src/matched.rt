@@ -61,6 +61,7 @@ fn found_in<'a>(alloc: Global, matches: &ArgMatches<'a>) -> Result<Shape<'a>, Ou
     let positional = positional_in(alloc, matches)?;
     Ok(Shape {
         at: matches.get_str("at"),
+        attribute: matches.get_str("attribute"),
         drift: matches.get_str("drift"),
         from: matches.get_str("from"),
         host: matches.get_str("host"),
@@ -115,6 +116,7 @@ fn first_options<'a>(alloc: Global) -> Result<Command<'a>, AllocError>
 {
     let command = bare_command(alloc);
     let command = with_option(alloc, command, "at")?;
+    let command = with_option(alloc, command, "attribute")?;
     let command = with_option(alloc, command, "drift")?;
     let command = with_option(alloc, command, "from")?;
     let command = with_option(alloc, command, "host")?;

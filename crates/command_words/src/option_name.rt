@@ -7,6 +7,7 @@ ghost use Rattle.command_words.specs.declared.option_name.OptionName.{OptionName
 #[derive(Clone, Copy, PartialEq, Eq)]
 pub enum OptionName {
     At,
+    Attribute,
     Drift,
     From,
     Host,
@@ -35,6 +36,7 @@ impl OptionName {
     {
         match self {
             OptionName::At => "at",
+            OptionName::Attribute => "attribute",
             OptionName::Drift => "drift",
             OptionName::From => "from",
             OptionName::Host => "host",
@@ -58,6 +60,7 @@ pub fn option_named(name: &[u8]) -> Option<OptionName>
 {
     match name {
         b"at" => Some(OptionName::At),
+        b"attribute" => Some(OptionName::Attribute),
         b"drift" => Some(OptionName::Drift),
         b"from" => Some(OptionName::From),
         b"host" => Some(OptionName::Host),

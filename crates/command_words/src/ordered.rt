@@ -21,11 +21,12 @@ pub fn ordered_words(alloc: Global, shape: &Shape) -> Result<Vec<String>, OutOfM
 }
 
 // The options by name, with the value of each that is given.
-fn slots<'a>(shape: &Shape<'a>) -> [(OptionName, Option<&'a str>); 13]
+fn slots<'a>(shape: &Shape<'a>) -> [(OptionName, Option<&'a str>); 14]
     ensures { map (λ s. (s.0, option_map (λ v. v.now) s.1)) result ≡ slots shape.now }
 {
     [
         (OptionName::At, shape.at),
+        (OptionName::Attribute, shape.attribute),
         (OptionName::Drift, shape.drift),
         (OptionName::From, shape.from),
         (OptionName::Host, shape.host),

@@ -30,7 +30,10 @@ pub fn read_path(alloc: Global, shape: &Shape, words: &[&str]) -> Result<PlainCo
     ensures found { IfOk result (λ c. IsAsked shape.now c) }
     ensures usage { result ≡ Err Usage → (c : PlainCommand) → ¬ (IsAsked shape.now c) }
 {
-    if shape.at.is_some() || !is_unasked(shape) || !is_unmade(shape) {
+    if shape.at.is_some() || shape.attribute.is_some() {
+        return Err(WordsError::Usage);
+    }
+    if !is_unasked(shape) || !is_unmade(shape) {
         return Err(WordsError::Usage);
     }
     let Some(window) = read_window(shape) else {
@@ -85,8 +88,8 @@ fn read_thread(text: Option<&str>) -> Option<u32>
     if tid == 0 { None } else { Some(tid) }
 }
 
-// Two instants, in ns, one before the other.
-fn read_span(from: Option<&str>, to: Option<&str>) -> Option<(u64, u64)>
+/// Two instants, in ns, one before the other. `None` comes exactly where the texts are none.
+pub fn read_span(from: Option<&str>, to: Option<&str>) -> Option<(u64, u64)>
     ensures found { IfSome result (λ s. (option_map (λ t. t.now) from.entry ≡ Some (decimal s.0)) × (option_map (λ t. t.now) to.entry ≡ Some (decimal s.1)) × (s.0 < s.1) × (s.1 < 2 ^ 62)) }
     ensures none { IfNone result ((f t : ℕ) → f < t → t < 2 ^ 62 → option_map (λ t. t.now) from.entry ≡ Some (decimal f) → option_map (λ t. t.now) to.entry ≢ Some (decimal t)) }
 {

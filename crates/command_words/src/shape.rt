@@ -16,6 +16,7 @@ use trace_types::OutOfMemory;
 #[derive(Drop)]
 pub struct Shape<'a> {
     pub at: Option<&'a str>,
+    pub attribute: Option<&'a str>,
     pub drift: Option<&'a str>,
     pub from: Option<&'a str>,
     pub host: Option<&'a str>,
@@ -39,6 +40,7 @@ impl<'a> Model for Shape<'a> {
 
     ghost view = { λ s. record {
       at = option_map (λ v. v.now) s.at;
+      attribute = option_map (λ v. v.now) s.attribute;
       drift = option_map (λ v. v.now) s.drift;
       from = option_map (λ v. v.now) s.from;
       host = option_map (λ v. v.now) s.host;
@@ -70,6 +72,7 @@ fn shape_of<'a>(alloc: Global, parts: &[Part<'a>]) -> Result<Shape<'a>, WordsErr
     ensures usage { result ≡ Err Usage → (s : Shape) → ¬ (HaveShape parts.now s) }
 {
     let at = value_of(parts, OptionName::At)?;
+    let attribute = value_of(parts, OptionName::Attribute)?;
     let drift = value_of(parts, OptionName::Drift)?;
     let from = value_of(parts, OptionName::From)?;
     let host = value_of(parts, OptionName::Host)?;
@@ -85,6 +88,7 @@ fn shape_of<'a>(alloc: Global, parts: &[Part<'a>]) -> Result<Shape<'a>, WordsErr
     let positional = positional_of(alloc, parts)?;
     Ok(Shape {
         at,
+        attribute,
         drift,
         from,
         host,

@@ -10,6 +10,7 @@ use crate::command::{Input, PlainCommand};
 use crate::command_name::{CommandName, command_named};
 use crate::make::read_make;
 use crate::path::read_path;
+use crate::range::read_range;
 use crate::shape::Shape;
 use crate::words::WordsError;
 use sqlite_items::Items;
@@ -41,6 +42,8 @@ pub fn read_command(alloc: Global, shape: &Shape) -> Result<PlainCommand, WordsE
         CommandName::Ask => read_ask(alloc, shape, words),
         CommandName::Path => read_path(alloc, shape, words),
         CommandName::Make => read_make(shape, words),
+        CommandName::Range => read_range(alloc, shape, words),
+        CommandName::Disks => read_disks(alloc, shape, words),
     }
 }
 
@@ -102,7 +105,10 @@ fn read_state(alloc: Global, shape: &Shape, words: &[&str]) -> Result<PlainComma
     ensures found { IfOk result (λ c. IsAsked shape.now c) }
     ensures usage { result ≡ Err Usage → (c : PlainCommand) → ¬ (IsAsked shape.now c) }
 {
-    if !is_unasked(shape) || !has_no_window(shape) || !is_unmade(shape) {
+    if shape.attribute.is_some() || !is_unasked(shape) {
+        return Err(WordsError::Usage);
+    }
+    if !has_no_window(shape) || !is_unmade(shape) {
         return Err(WordsError::Usage);
     }
     let Some(at) = read_instant(shape.at) else {
@@ -118,7 +124,10 @@ fn read_ask(alloc: Global, shape: &Shape, words: &[&str]) -> Result<PlainCommand
     ensures found { IfOk result (λ c. IsAsked shape.now c) }
     ensures usage { result ≡ Err Usage → (c : PlainCommand) → ¬ (IsAsked shape.now c) }
 {
-    if shape.at.is_some() || !has_no_window(shape) || !is_unmade(shape) {
+    if shape.at.is_some() || shape.attribute.is_some() {
+        return Err(WordsError::Usage);
+    }
+    if !has_no_window(shape) || !is_unmade(shape) {
         return Err(WordsError::Usage);
     }
     if !are_workers(shape.workers) {
@@ -135,6 +144,22 @@ fn read_ask(alloc: Global, shape: &Shape, words: &[&str]) -> Result<PlainCommand
         questions,
         once,
     })
+}
+
+// The requests of disks.
+fn read_disks(alloc: Global, shape: &Shape, words: &[&str]) -> Result<PlainCommand, WordsError>
+    requires { shape.now.positional ≡ codes "disks" ∷ map (λ w. w.now) words.now }
+    ensures found { IfOk result (λ c. IsAsked shape.now c) }
+    ensures usage { result ≡ Err Usage → (c : PlainCommand) → ¬ (IsAsked shape.now c) }
+{
+    if shape.at.is_some() || shape.attribute.is_some() || !is_unasked(shape) {
+        return Err(WordsError::Usage);
+    }
+    if !has_no_window(shape) || !is_unmade(shape) {
+        return Err(WordsError::Usage);
+    }
+    let input = read_input(alloc, shape, words)?;
+    Ok(PlainCommand::Disks { input })
 }
 
 /// Where events come from: an event list, or the traces in folders. `Usage` comes exactly where the words give neither.
@@ -237,6 +262,7 @@ fn is_bare(shape: &Shape) -> bool
 {
     shape.at.is_none()
         && shape.list.is_none()
+        && shape.attribute.is_none()
         && is_unasked(shape)
         && has_no_window(shape)
         && is_unmade(shape)

@@ -38,14 +38,14 @@ index_kept old new rows next records same h = record {
 }
 
 -- ---- one more record
-contains_here : {A : Type 0} (xs : List A) (x : A) → Contains (x ∷ xs) x
+pub contains_here : {A : Type 0} (xs : List A) (x : A) → Contains (x ∷ xs) x
 contains_here xs x = (0, omega arith, refl)
 
-contains_cases : {A : Type 0} (xs : List A) (x y : A) → Contains (x ∷ xs) y → (x ≡ y) ⊎ Contains xs y
+pub contains_cases : {A : Type 0} (xs : List A) (x y : A) → Contains (x ∷ xs) y → (x ≡ y) ⊎ Contains xs y
 contains_cases xs x y (zero, lt, at) = inl at
 contains_cases xs x y (suc k, lt, at) = inr (k, omega arith, at)
 
-contains_none : {A : Type 0} (y : A) → Contains [] y → ⊥
+pub contains_none : {A : Type 0} (y : A) → Contains [] y → ⊥
 contains_none y (k, lt, at) = omega (arith, lt)
 
 pub index_put : (nodes : List Node) (k : ℕ) (i : Interval) (rows next : List PlaceList) → k < length nodes → IsPermutation (place_of i k ∷ places_of i.number rows) (places_of i.number next) → OthersHaveSame i.number rows next → AreIndexed nodes rows → AreIndexed (set nodes k (with_record i (node_at nodes k))) next

@@ -23,3 +23,6 @@ pub mod Keeping
 pub mod Climbing
 pub mod Indexing
 pub mod Inserting
+pub mod Slicing
+pub mod Gathering
+pub mod Overlooking

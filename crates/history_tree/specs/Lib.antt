@@ -7,3 +7,4 @@ pub mod Places
 pub mod Shortcuts
 pub mod Earlier
 pub mod Index
+pub mod Over

@@ -3,6 +3,7 @@
 
 mod branch;
 mod earlier;
+mod over;
 mod places;
 mod room;
 mod shortcuts;

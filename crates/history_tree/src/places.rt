@@ -2,6 +2,7 @@
 ghost use Rattle.std.specs.Prelude.{◌≡◌, ◌<◌, ◌≤◌, ◌∷◌, ◌-◌, [], length, nat_le, nat_lt, Contains, IfSome, IfNone, OnOk, vec_len, vec_capacity};
 ghost use Rattle.std.specs.List.Sorted.{IsNonDecreasingBy, IsPermutation};
 ghost use Rattle.history_tree.specs.declared.places.Place.{Place};
+ghost use Rattle.history_tree.specs.Over.{MayMeet};
 ghost use Rattle.history_tree.specs.Places.{start_of, row_at, places_of, HaveSame, OthersHaveSame, IsGap, IsBegunCount, IsLatest};
 
 use std::alloc::Global;
@@ -88,6 +89,17 @@ impl Places {
         }
         self.rows[number].latest(t)
     }
+
+    /// The places of a number whose intervals may meet a range, in ns, by their starts. It takes no memory.
+    pub fn over(&self, number: usize, from: u64, to: u64) -> &[Place]
+        requires { from ≤ to }
+        ensures { MayMeet (places_of number self.now) from to result.now }
+    {
+        match self.rows.get(number) {
+            Some(row) => row.over(from, to),
+            None => &[],
+        }
+    }
 }
 
 // The places of one number's intervals, by their starts. Contracts see their list, and how many more there is room for.
@@ -146,6 +158,16 @@ impl Row {
             return None;
         }
         Some(self.places[begun - 1])
+    }
+
+    // The last place that begins by a range's first instant, and those that begin in the range after it.
+    fn over(&self, from: u64, to: u64) -> &[Place]
+        requires { from ≤ to }
+        ensures { MayMeet self.now.places from to result.now }
+    {
+        let first = count_begun(&self.places, from).saturating_sub(1);
+        let end = count_begun(&self.places, to);
+        &self.places[first..end]
     }
 }
 

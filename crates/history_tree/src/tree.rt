@@ -1,5 +1,5 @@
 //! The tree: intervals go in, and are found by their number and an instant.
-ghost use Rattle.std.specs.Prelude.{◌≡◌, ◌+◌, ◌<◌, ◌≤◌, ◌^◌, ℕ, [], ◌∷◌, Some, None, IfOk, IfSome, IfNone, OnOk, OnErr};
+ghost use Rattle.std.specs.Prelude.{◌≡◌, ◌+◌, ◌<◌, ◌≤◌, ◌^◌, ℕ, [], ◌∷◌, length, Some, None, IfOk, IfSome, IfNone, OnOk, OnErr};
 ghost use Rattle.std.specs.FinMap.{get};
 ghost use Rattle.trace_types.specs.declared.limits.TheConstants.{TIME_END};
 ghost use Rattle.trace_types.specs.declared.value.Value.{Value};
@@ -8,9 +8,11 @@ ghost use Rattle.history_tree.specs.Tree.{IsTree, levels_of, tree_of};
 ghost use Rattle.history_tree.specs.Records.{content_of, with_interval, IsAt, IsFree, IsHeld};
 ghost use Rattle.history_tree.specs.Placement.{IsPlaced};
 ghost use Rattle.history_tree.specs.Ways.{IsWay};
+ghost use Rattle.history_tree.specs.Over.{count_met, AreOver};
 
 use crate::branch::first_that_takes;
 use crate::earlier::Earlier;
+use crate::over::{Sought, nodes_of, read_nodes, sort_by_start};
 use crate::places::{Place, Places};
 use crate::room::{found_or_root, make_ready};
 use crate::shortcuts::Shortcuts;
@@ -113,6 +115,13 @@ impl Tree {
         self.nodes.shape(self.root).level + 1
     }
 
+    /// The nodes, by their numbers. A command reads none of them so: it is for who writes or looks into a tree.
+    pub fn nodes(&self) -> &Nodes
+        ensures { result.now.nodes ≡ self.now.nodes }
+    {
+        &self.nodes
+    }
+
     /// The way from the root to the leaf whose range holds an instant, in ns. It takes no memory.
     pub fn path(&self, t: u64) -> Visit<'_>
         requires { t < TIME_END }
@@ -134,6 +143,30 @@ impl Tree {
         let place = self.places.latest(number, t)?;
         let node = self.nodes.node(place.node, reads);
         node.intervals.find(number, t)
+    }
+
+    /// The stored intervals of a number that meet a range, in ns, whose ends both belong to it; in order of start. It
+    /// reads no node whose range doesn't meet the range. The only error is lack of memory.
+    pub fn over(
+        &self,
+        alloc: Global,
+        number: usize,
+        from: u64,
+        to: u64,
+        reads: &mut Reads,
+    ) -> Result<Vec<Interval>, OutOfMemory>
+        requires order { from ≤ to }
+        requires time { to < TIME_END }
+        requires few { reads.old + length self.now.nodes < 2 ^ 64 }
+        ensures over { IfOk result (λ found. AreOver (content_of self.now.nodes) number from to found.items) }
+        ensures rises { reads.old ≤ reads.new }
+        ensures few_reads { reads.new ≤ reads.old + count_met from to self.now.nodes }
+    {
+        let numbers = nodes_of(alloc, self.places.over(number, from, to))?;
+        let sought = Sought { number, from, to };
+        let mut found = read_nodes(alloc, &self.nodes, &numbers, &sought, reads)?;
+        sort_by_start(&mut found);
+        Ok(found)
     }
 }
 

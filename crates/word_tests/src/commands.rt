@@ -67,6 +67,16 @@ const ROWS: &[(&str, &str)] = &[
         "make --rounds 100000 --hosts 64 --number 18446744073709551615",
         "make of 18446744073709551615, hosts 64, rounds 100000",
     ),
+    (
+        "range --list A --from 50 --to 300 --attribute h0/Cpu/1/Irq",
+        "range of h0/Cpu/1/Irq from 50 to 300, list A",
+    ),
+    (
+        "--attribute=h63/Thread/2147483647/Call range X --to=4611686018427387903 --from=4611686018427387902 Y --drift 2",
+        "range of h63/Thread/2147483647/Call from 4611686018427387902 to 4611686018427387903, drift 2, X, Y",
+    ),
+    ("disks --list A", "disks, list A"),
+    ("--drift 9 -- disks X Y", "disks, drift 9, X, Y"),
 ];
 
 #[test]

@@ -2,7 +2,7 @@
 use command_words::{Command, Input, PlainCommand, WordsError, parse_words};
 use std::alloc::Global;
 use std::test::Fail;
-use trace_types::Text;
+use trace_types::{Text, write_path};
 
 /// What the words of a line, which single spaces part, ask for, as a text.
 pub fn asked(alloc: Global, line: &str) -> Result<String, Fail> {
@@ -58,6 +58,19 @@ fn text_of(alloc: Global, command: &PlainCommand) -> Result<String, Fail> {
             hosts,
             rounds,
         } => Ok(format!(in alloc; "make of {number}, hosts {hosts}, rounds {rounds}")?),
+        PlainCommand::Range {
+            input,
+            from,
+            to,
+            path,
+        } => {
+            let mut attribute = Vec::new(alloc);
+            write_path(alloc, *path, &mut attribute)?;
+            let attribute = str::from_utf8(attribute.as_slice())?;
+            let begin = format!(in alloc; "range of {attribute} from {from} to {to}")?;
+            read_from(alloc, &begin, input)
+        }
+        PlainCommand::Disks { input } => read_from(alloc, "disks", input),
     }
 }
 
