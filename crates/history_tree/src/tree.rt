@@ -115,6 +115,14 @@ impl Tree {
         self.nodes.shape(self.root).level + 1
     }
 
+    /// How many nodes the tree has.
+    pub fn node_count(&self) -> usize
+        ensures count { result ≡ length self.now.nodes }
+        ensures few { length self.now.nodes < 2 ^ 63 }
+    {
+        self.nodes.len()
+    }
+
     /// The way from the root to the leaf whose range holds an instant, in ns. It takes no memory.
     pub fn path(&self, t: u64) -> Visit<'_>
         requires { t < TIME_END }

@@ -1,0 +1,1 @@
+-- There is one list of stretches over a range.

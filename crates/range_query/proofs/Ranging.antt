@@ -1,0 +1,1 @@
+-- The stretches of a number are those of its path.
