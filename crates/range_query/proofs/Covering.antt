@@ -1,8 +1,9 @@
 -- What stretches that are made from intervals keep, and which values they have.
 use Rattle.std.proofs.Common.{◌≡◌, ◌⊎◌, inl, inr, ℕ, ◌+◌, ◌-◌, ◌<◌, ◌≤◌, min, Bool, true, false, cond, nat_lt, nat_le, MatchBool, List, [], ◌∷◌, Contains, Option, None, Some, refl, sym, ap, ◌∙◌, subst, arith}
 use Rattle.std.specs.List.{AllByRecursion}
+use Rattle.std.specs.Prelude.{unwrap_or}
 use Rattle.std.specs.FinMap.{get}
-use Rattle.std.proofs.lemmas.Bool.{ltb-true, ltb-false, leb-true, lt-leb, cases_order}
+use Rattle.std.proofs.lemmas.Bool.{ltb-true, ltb-false, le-leb, lt-leb}
 use Rattle.trace_types.specs.declared.value.Value.{Value}
 use Rattle.trace_types.specs.declared.value.Value.TheVariants.{Null}
 use Rattle.history_nodes.specs.declared.interval.Interval.{Interval}
@@ -104,7 +105,7 @@ module _ (content : Content) (o : Option Since) (number end : ℕ) (f : ℕ → 
       since : (p : Option Since) → (s : Since) × (p ≡ Some s) × (i.end < s.start) → IsValueSince p content number t i.value
       since None q = inl (i.start, i.end, at, begun, lasts)
       since (Some c) q =
-          let same : q.0 ≡ c = ap (λ p. Rattle.std.specs.Prelude.unwrap_or p c) (sym q.1) in
+          let same : q.0 ≡ c = ap (λ (q' : Option Since). unwrap_or q' c) (sym q.1) in
           let start = ap (λ (s : Since). s.start) same in
           rw (lt-leb c.start t (omega (arith, start, q.2, lasts))) (inl (i.start, i.end, at, begun, lasts))
 
@@ -142,7 +143,7 @@ module _ (content : Content) (o : Option Since) (number end : ℕ) (f : ℕ → 
           by (inl same) =
               let start : i.start ≡ s = ap (λ (k : Interval). k.start) same ∙ w.begins in
               let here : get content (number ∷ s ∷ []) ≡ Some (i.end, i.value) = subst (λ n. get content (n ∷ s ∷ []) ≡ Some (i.end, i.value)) p.of.0 (subst (λ k. get content (i.number ∷ k ∷ []) ≡ Some (i.end, i.value)) start p.held.0) in
-              let ends : i.end ≡ e = ap (λ q. (Rattle.std.specs.Prelude.unwrap_or q (e, v)).0) (sym here ∙ g) in
+              let ends : i.end ≡ e = ap (λ (q : Option (ℕ × Value)). (unwrap_or q (e, v)).0) (sym here ∙ g) in
               absurd (omega (arith, ends, lasts, late, lt, second.to_by))
 
   next_values : (from : ℕ) (i : Interval) (is : List Interval) (c : Covered) (least : ℕ) → ArePending content number end c.reached least (i ∷ is) → IsCover from c → AllByRecursion (HasValue f) c.stretches
@@ -168,7 +169,7 @@ module _ (content : Content) (o : Option Since) (number end : ℕ) (f : ℕ → 
       before : (t : ℕ) → t < i.start → (s : Since) → o ≡ Some s → t < s.start
       before t early s e =
           let q = said.older i.start i.end i.value (subst (λ n. get content (n ∷ i.start ∷ []) ≡ Some (i.end, i.value)) p.of.0 p.held.0) in
-          let same : q.0 ≡ s = ap (λ p. Rattle.std.specs.Prelude.unwrap_or p s) (sym q.1 ∙ e) in
+          let same : q.0 ≡ s = ap (λ (q' : Option Since). unwrap_or q' s) (sym q.1 ∙ e) in
           let start = ap (λ (r : Since). r.start) same in
           let ordered = i.ordered in
           omega (arith, start, q.2, ordered, early)
@@ -194,31 +195,18 @@ module _ (content : Content) (o : Option Since) (number end : ℕ) (f : ℕ → 
   ended_values from (Some since) c e h =
       values_extended f from end since.value (extended (min end since.start) Null c) (cover_extended from (min end since.start) Null c h.cover)
       (values_extended f from (min end since.start) Null c h.cover h.values (λ t late lt. gap_value t (λ s k v g begun lasts. h.none s k t v g begun lasts late (omega (arith, lt))) (λ s is. early t s is lt) (omega (arith, lt))))
-      (λ t late lt. sym (said.says t since.value lt (open t late lt)))
+      (λ t late lt. sym (said.says t since.value lt (is_open t late lt)))
     where
       early : (t : ℕ) (s : Since) → o ≡ Some s → t < min end since.start → t < s.start
       early t s is lt =
-          let same : since ≡ s = ap (λ q. Rattle.std.specs.Prelude.unwrap_or q s) (sym e ∙ is) in
+          let same : since ≡ s = ap (λ (q' : Option Since). unwrap_or q' s) (sym e ∙ is) in
           let start = ap (λ (r : Since). r.start) same in
           omega (arith, start, lt)
 
-      open : (t : ℕ) → (extended (min end since.start) Null c).reached ≤ t → t < end → IsValueSince o content number t since.value
-      open t late lt =
+      is_open : (t : ℕ) → (extended (min end since.start) Null c).reached ≤ t → t < end → IsValueSince o content number t since.value
+      is_open t late lt =
           let reached = (reached_extended (min end since.start) Null c).to_by in
-          rw (e, Rattle.std.proofs.lemmas.Bool.le-leb since.start t (omega (arith, reached, late, lt))) refl
-
-  -- how far it goes in the end
-  pub ended_reach : (p : Option Since) (c : Covered) → c.reached ≤ end → (ended end p c).reached ≡ end
-  ended_reach None c le =
-      let r = reached_extended end Null c in
-      let b = within _ _ _ end r le (omega arith) in
-      omega (arith, r.to_by, b)
-  ended_reach (Some since) c le =
-      let q = reached_extended (min end since.start) Null c in
-      let b = within _ _ _ end q le (omega arith) in
-      let r = reached_extended end since.value (extended (min end since.start) Null c) in
-      let d = within _ _ _ end r b (omega arith) in
-      omega (arith, r.to_by, d)
+          rw (e, le-leb since.start t (omega (arith, reached, late, lt))) refl
 
 -- ---- from where it begins
 pub over_pending : (content : Content) (number from end : ℕ) (is : List Interval) → from < end → AreOver content number from (end - 1) is → ArePending content number end from 0 is
@@ -234,6 +222,16 @@ over_pending content number from end is lt over = record {
     awaited : (s : ℕ) → HasStart is s → IsAwaited is s
     awaited s h = record { interval = h.interval; member = member_in h.interval is h.listed; begins = h.begins }
 
+-- they don't go past the end
+pub filled_within : (end : ℕ) (is : List Interval) (c : Covered) → AllByRecursion (λ i. i.start < end) is → c.reached ≤ end → (filled end is c).reached ≤ end
+filled_within end [] c b le = le
+filled_within end (i ∷ is) c b le =
+    filled_within end is (extended (min end (i.end + 1)) i.value (extended i.start Null c)) b.1
+    (within _ _ _ end (reached_extended (min end (i.end + 1)) i.value (extended i.start Null c)) (within _ _ _ end (reached_extended i.start Null c) le (omega (arith, b.0))) (omega arith))
+
+pub filled_below : (content : Content) (number from end : ℕ) (is : List Interval) → from < end → AreOver content number from (end - 1) is → (filled end is (begun from)).reached ≤ end
+filled_below content number from end is lt over = filled_within end is (begun from) (over_pending content number from end is lt over).begins (omega arith)
+
 pub begun_cover : (from : ℕ) → IsCover from (begun from)
 begun_cover from = record { tile = refl; differ = tt }
 
@@ -241,3 +239,16 @@ begun_cover from = record { tile = refl; differ = tt }
 pub all_values : (content : Content) (o : Option Since) (number from end : ℕ) (is : List Interval) (f : ℕ → Value) → from < end → AreOver content number from (end - 1) is → Says content o number end f → AllByRecursion (HasValue f) (ended end o (filled end is (begun from))).stretches
 all_values content o number from end is f lt over said =
     ended_values content o number end f said from o (filled end is (begun from)) refl (is_filled content o number end f said from 0 is (begun from) (over_pending content number from end is lt over) (begun_cover from) tt)
+
+-- how far it goes in the end
+pub ended_reach : (end : ℕ) (p : Option Since) (c : Covered) → c.reached ≤ end → (ended end p c).reached ≡ end
+ended_reach end None c le =
+    let r = reached_extended end Null c in
+    let b = within _ _ _ end r le (omega arith) in
+    omega (arith, r.to_by, b)
+ended_reach end (Some since) c le =
+    let q = reached_extended (min end since.start) Null c in
+    let b = within _ _ _ end q le (omega arith) in
+    let r = reached_extended end since.value (extended (min end since.start) Null c) in
+    let d = within _ _ _ end r b (omega arith) in
+    omega (arith, r.to_by, d)

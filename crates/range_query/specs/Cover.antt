@@ -6,7 +6,7 @@ use Rattle.trace_types.specs.Same.{same_value}
 use Rattle.history_nodes.specs.declared.interval.Interval.{Interval}
 use Rattle.history_tree.specs.Over.{AreOver}
 use Rattle.history_core.specs.declared.closed.Since.{Since}
-use Rattle.history_core.specs.Intervals.{open_at}
+use Rattle.history_core.specs.Intervals.{open_at, EndBefore}
 use Rattle.history_core.specs.Stands.{HistoryModel}
 use Rattle.range_query.specs.declared.stretch.Stretch.{Stretch}
 
@@ -47,4 +47,5 @@ ended end (Some since) c = extended end since.value (extended (min end since.sta
 pub record AreOf (h : HistoryModel) (number from end : ℕ) (ss : List Stretch) : Type 0 where
   pub intervals : List Interval
   pub over : AreOver h.closed number from (end - 1) intervals
+  pub older : EndBefore h.closed number (open_at h.opened number)
   pub are : ss ≡ (ended end (open_at h.opened number) (filled end intervals (begun from))).stretches
