@@ -139,6 +139,7 @@ fn order_of_slopes(rt: HostRuntime) {
     );
 }
 
+// Laws do nothing, so nothing is asserted here: that this is proved shows that a caller can meet what they need.
 #[test]
 fn laws_can_be_called() {
     laws::one_floor(&STEEP, 500);

@@ -263,6 +263,7 @@ fn missing_points(rt: HostRuntime) -> Result<(), Fail> {
     Ok(())
 }
 
+// Laws do nothing, so nothing is asserted here: that this is proved shows that a caller can meet what they need.
 #[test]
 fn laws_can_be_called() {
     let points = [ClockPoint { x: 500, y: 1000 }];

@@ -66,6 +66,19 @@ pub fn of_instants(alloc: Global, last: u64) -> Result<Tree, OutOfMemory>
     Ok(tree)
 }
 
+/// The end of a node, and whether it has the record of a number that holds an instant.
+pub fn told_of(tree: &Tree, node: usize, number: usize, t: u64) -> (Option<u64>, bool)
+    requires { t < TIME_END }
+{
+    let nodes = tree.nodes();
+    if node >= nodes.len() {
+        return (None, false);
+    }
+    let end = nodes.shape(node).end;
+    let record = nodes.node(node, &mut Reads::new()).intervals.find(number, t);
+    (end, record.is_some())
+}
+
 /// The numbers of the way of an instant as one number, with three digits each, the root's first.
 pub fn way(tree: &Tree, t: u64) -> usize
     requires { t < TIME_END }

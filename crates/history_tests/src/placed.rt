@@ -1,7 +1,7 @@
 //! Where intervals are placed, by hand: a node has 95 records and 16 children at most.
 ghost use Rattle.std.specs.Prelude.{◌<◌, ◌≤◌};
 
-use crate::grown::{interval, of_instants, put, start_of, way};
+use crate::grown::{interval, of_instants, put, start_of, told_of, way};
 use std::alloc::Global;
 use std::test::Fail;
 use trace_types::OutOfMemory;
@@ -64,6 +64,19 @@ fn stored(
 #[test]
 fn an_interval_that_starts_before_the_leaf_goes_above_it(rt: HostRuntime) -> Result<(), Fail> {
     assert!(rt; stored(rt.alloc(), 96, 0, 50)? == (true, Some(50), Some(0), 1_002));
+    Ok(())
+}
+
+// Node 0 was closed at 95, the root took the interval that began before the newest leaf, and this leaf has the last instant.
+#[test]
+fn a_full_leaf_is_closed_where_it_ends(rt: HostRuntime) -> Result<(), Fail> {
+    let mut tree = of_instants(rt.alloc(), 96)?;
+    assert!(rt; put(&mut tree, interval(1, 0, 97))?);
+    assert!(rt; told_of(&tree, 0, 0, 95) == (Some(95), true));
+    assert!(rt; told_of(&tree, 1, 1, 50) == (None, true));
+    assert!(rt; told_of(&tree, 1, 0, 96) == (None, false));
+    assert!(rt; told_of(&tree, 2, 0, 96) == (None, true));
+    assert!(rt; told_of(&tree, 3, 0, 96) == (None, false));
     Ok(())
 }
 

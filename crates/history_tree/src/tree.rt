@@ -115,12 +115,11 @@ impl Tree {
         self.nodes.shape(self.root).level + 1
     }
 
-    /// How many nodes the tree has.
-    pub fn node_count(&self) -> usize
-        ensures count { result ≡ length self.now.nodes }
-        ensures few { length self.now.nodes < 2 ^ 63 }
+    /// The nodes, by their numbers. A command reads none of them so: it is for who writes or looks into a tree.
+    pub fn nodes(&self) -> &Nodes
+        ensures { result.now.nodes ≡ self.now.nodes }
     {
-        self.nodes.len()
+        &self.nodes
     }
 
     /// The way from the root to the leaf whose range holds an instant, in ns. It takes no memory.

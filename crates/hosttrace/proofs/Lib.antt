@@ -5,6 +5,7 @@ pub mod Written
 pub mod EventLines
 pub mod LongLines
 pub mod OneOrder
+pub mod RefusedFor
 pub mod Complete
 pub mod Fails
 pub mod Left
@@ -21,5 +22,7 @@ pub mod OneCluster
 pub mod OneSync
 pub mod OneReport
 pub mod OnePath
+pub mod OneLine
 pub mod OneText
+pub mod OneRefusal
 pub mod Told

@@ -1,6 +1,5 @@
 -- What is read of made traces.
-use Rattle.std.proofs.Common.{◌≡◌, inl, inr, ℕ, ◌+◌, suc, List, [], ◌∷◌, ◌++◌, Option, Some, None, sym, ap, subst, subst₂, arith}
-use Rattle.std.specs.Prelude.{IfSome}
+use Rattle.std.proofs.Common.{◌≡◌, inl, inr, ℕ, ◌+◌, suc, List, [], ◌∷◌, ◌++◌, Option, Some, ap, subst₂, arith}
 use Rattle.std.specs.Fmt.{decimal}
 use Rattle.ht_outside.specs.Faults.{HasRisen}
 use Rattle.ht_outside.specs.Files.{Files}
@@ -8,18 +7,13 @@ use Rattle.trace_types.specs.declared.host.HostEvents.{HostEvents}
 use Rattle.trace_gen.specs.Folders.{AreSame}
 use Rattle.host_sync.specs.Synced.{Synced}
 use Rattle.report_views.specs.Made.{made_text}
-use Rattle.command_words.specs.declared.command.PlainCommand.{PlainCommand}
-use Rattle.command_words.specs.declared.command.PlainCommand.TheVariants.{Make}
 use Rattle.hosttrace.specs.Clusters.{AreSyncedTraces}
 use Rattle.hosttrace.specs.Making.{IsMakeOutput, made_files, made_folders}
-use Rattle.hosttrace.specs.Means.{IsOutput}
-use Rattle.hosttrace.specs.Refusals.{ClusterRefuses, MakeRefuses, Refuses}
-use Rattle.hosttrace.specs.Seen.{FailsBy, FailsOf, StoreSeen}
-use Rattle.hosttrace.specs.declared.status.Refusal.{Refusal}
+use Rattle.hosttrace.specs.Refusals.{ClusterRefuses, MakeRefuses}
+use Rattle.hosttrace.specs.Seen.{FailsBy, FailsOf}
 use Rattle.hosttrace.specs.declared.status.Status.{Status}
 use Rattle.hosttrace.specs.declared.status.Status.TheVariants.{Done, Usage, Refused, ReadFault, WriteFault, NoMemory}
 use Rattle.hosttrace.proofs.Clustered.{in_order, sends_first}
-use Rattle.hosttrace.proofs.Fails.{fails_of}
 
 -- one folder more
 pub folders_next : (host : ℕ) → made_folders (host + 1) ≡ made_folders host ++ decimal host ∷ []
@@ -59,15 +53,3 @@ make_output number hosts rounds found s text traces is = record {
   sends_first = sends_first (made_files number hosts rounds) (made_folders hosts) 1000 found s traces;
   is_text = is;
 }
-
-pub output_of_make : (o : Option Files) (command : PlainCommand) (number hosts rounds : ℕ) → command ≡ Make number hosts rounds → (text : List ℕ) → IsMakeOutput number hosts rounds text → IfSome o (λ files. IsOutput command files text)
-output_of_make None command number hosts rounds is text h = tt
-output_of_make (Some files) command number hosts rounds is text h = subst (λ k. IsOutput k files text) (sym is) h
-
-refused_at : (o : Option Files) (number hosts rounds : ℕ) → IfSome o (λ files. (r : Refusal) → MakeRefuses number hosts rounds r → MakeRefuses number hosts rounds r)
-refused_at None number hosts rounds = tt
-refused_at (Some files) number hosts rounds = λ r h. h
-
-pub refusal_of_make : (command : PlainCommand) (number hosts rounds : ℕ) → command ≡ Make number hosts rounds → (seen : StoreSeen) (status : Status) → FailsOf (MakeRefuses number hosts rounds) status → FailsBy (Refuses command) seen status
-refusal_of_make command number hosts rounds is seen status h =
-    subst (λ k. FailsBy (Refuses k) seen status) (sym is) (fails_of (λ files r. MakeRefuses number hosts rounds r) (MakeRefuses number hosts rounds) seen status (refused_at seen.files number hosts rounds) h)

@@ -141,7 +141,7 @@ found_alike files place before after (dir ∷ dirs) (a ∷ hs) (b ∷ bs) (x ∷
 found_alike files place before after (dir ∷ dirs) (a ∷ hs) (b ∷ bs) (x ∷ xs) (y ∷ ys) ha hb hx hy =
     (one_host files place before after dir a b ha.0 hb.0 x y hx.0 hy.0, found_alike files (place + 1) _ _ dirs hs bs xs ys ha.1 hb.1 hx.1 hy.1)
 
-packets_alike : (files : Files) (place before after : ℕ) (dirs : List (List ℕ)) (hosts others : List HostFiles) → AreHostsFrom files place before dirs hosts → AreHostsFrom files place after dirs others → packet_count hosts ≡ packet_count others
+pub packets_alike : (files : Files) (place before after : ℕ) (dirs : List (List ℕ)) (hosts others : List HostFiles) → AreHostsFrom files place before dirs hosts → AreHostsFrom files place after dirs others → packet_count hosts ≡ packet_count others
 packets_alike files place before after [] [] [] ha hb = refl
 packets_alike files place before after [] [] (b ∷ bs) ha hb = absurd hb
 packets_alike files place before after [] (a ∷ hs) bs ha hb = absurd ha
@@ -149,7 +149,7 @@ packets_alike files place before after (dir ∷ dirs) [] bs ha hb = absurd ha
 packets_alike files place before after (dir ∷ dirs) (a ∷ hs) [] ha hb = absurd hb
 packets_alike files place before after (dir ∷ dirs) (a ∷ hs) (b ∷ bs) ha hb = ap₂ (λ m n. m + n) (same_packets files place before after dir a b ha.0 hb.0) (packets_alike files (place + 1) _ _ dirs hs bs ha.1 hb.1)
 
-events_alike : (files : Files) (place before after : ℕ) (dirs : List (List ℕ)) (hosts others : List HostFiles) → AreHostsFrom files place before dirs hosts → AreHostsFrom files place after dirs others → event_count hosts ≡ event_count others
+pub events_alike : (files : Files) (place before after : ℕ) (dirs : List (List ℕ)) (hosts others : List HostFiles) → AreHostsFrom files place before dirs hosts → AreHostsFrom files place after dirs others → event_count hosts ≡ event_count others
 events_alike files place before after [] [] [] ha hb = refl
 events_alike files place before after [] [] (b ∷ bs) ha hb = absurd hb
 events_alike files place before after [] (a ∷ hs) bs ha hb = absurd ha

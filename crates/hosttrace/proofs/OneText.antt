@@ -89,7 +89,7 @@ one_answers_text files source questions a b h g =
 
 -- ---- one merge of an input with its messages
 
-one_placed_input : (files : Files) (source : Input) (merged others : List Merged) (placed again : List Placed) → IsPlacedInput source files merged placed → IsPlacedInput source files others again → (merged ≡ others) × (placed ≡ again)
+pub one_placed_input : (files : Files) (source : Input) (merged others : List Merged) (placed again : List Placed) → IsPlacedInput source files merged placed → IsPlacedInput source files others again → (merged ≡ others) × (placed ≡ again)
 one_placed_input files (input.List file) merged others placed again h g =
     let same = one_input files (input.List file) h.trace g.trace h.is_trace g.is_trace in
     (h.merged_is ∙ (same.0 ∙ sym g.merged_is), one_places h.trace g.trace same.0 same.1 placed again h.places g.places)
@@ -126,11 +126,11 @@ one_text (Make number hosts rounds) files a b h g = one_make_text number hosts r
 
 -- ---- files that have a text are good
 
-good_input : (files : Files) (source : Input) (t : MergedTrace) → IsInput source files t → IsGoodInput source files
-good_input files (input.List file) t h = (h.parsed_lines, h.is_list)
-good_input files (input.Folders dirs drift) t h = good_traces files dirs drift h.found h.synced h.traces
+pub input_is_good : (files : Files) (source : Input) (t : MergedTrace) → IsInput source files t → IsGoodInput source files
+input_is_good files (input.List file) t h = (h.parsed_lines, h.is_list)
+input_is_good files (input.Folders dirs drift) t h = good_traces files dirs drift h.found h.synced h.traces
 
-good_placed : (files : Files) (source : Input) (merged : List Merged) (placed : List Placed) → IsPlacedInput source files merged placed → IsGoodInput source files
+pub good_placed : (files : Files) (source : Input) (merged : List Merged) (placed : List Placed) → IsPlacedInput source files merged placed → IsGoodInput source files
 good_placed files (input.List file) merged placed h = (h.is_trace.parsed_lines, h.is_trace.is_list)
 good_placed files (input.Folders dirs drift) merged placed h = good_traces files dirs drift h.found h.synced h.traces
 
@@ -144,8 +144,8 @@ pub good_files : (command : PlainCommand) (files : Files) (text : List ℕ) → 
 good_files (Check folders) files text h = record { few = h.few; are_read = h.are_read; traces = h.traces; are_traces = h.are_traces }
 good_files (Report folders drift) files text h = good_traces files folders drift h.found h.synced h.traces
 good_files (Events folders drift) files text h = good_traces files folders drift h.found h.synced h.traces
-good_files (State source at) files text h = good_input files source h.trace h.is_input
-good_files (Ask source questions once) files text h = (good_input files source h.trace h.is_input, (h.asked, h.are_asked))
+good_files (State source at) files text h = input_is_good files source h.trace h.is_input
+good_files (Ask source questions once) files text h = (input_is_good files source h.trace h.is_input, (h.asked, h.are_asked))
 good_files (Path source host tid from to) files text h = good_path files source host tid from to text h
 good_files (Make number hosts rounds) files text h = good_traces (made_files number hosts rounds) (made_folders hosts) 1000 h.found h.synced h.traces
 

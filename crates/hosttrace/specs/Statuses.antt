@@ -5,8 +5,20 @@ use Rattle.std.specs.Io.KnownBytes.{Appends}
 use Rattle.ht_outside.specs.Faults.{HasRisen}
 use Rattle.hosttrace.specs.Writing.{AppendsFront}
 use Rattle.trace_metadata.specs.Causes.{cause_text}
+use Rattle.ht_outside.specs.declared.sink.SinkError.{SinkError}
+use Rattle.ht_outside.specs.declared.sink.SinkError.TheVariants as sink
+use Rattle.ht_outside.specs.declared.store.StoreError.{StoreError}
+use Rattle.ht_outside.specs.declared.store.StoreError.TheVariants as store
+use Rattle.command_words.specs.declared.words.WordsError.{WordsError}
+use Rattle.command_words.specs.declared.words.WordsError.TheVariants as words
+use Rattle.trace_metadata.specs.declared.reading.MetadataError.{MetadataError}
+use Rattle.trace_metadata.specs.declared.reading.MetadataError.TheVariants as metadata
+use Rattle.decode_pool.specs.declared.all.DecodeError.{DecodeError}
+use Rattle.decode_pool.specs.declared.all.DecodeError.TheVariants as decode
 use Rattle.event_list.specs.declared.list.ListError.{ListError}
 use Rattle.event_list.specs.declared.list.ListError.TheVariants as list
+use Rattle.hosttrace.specs.declared.reading.ReadError.{ReadError}
+use Rattle.hosttrace.specs.declared.reading.ReadError.TheVariants as read
 use Rattle.hosttrace.specs.declared.questions.QuestionsError.{QuestionsError}
 use Rattle.hosttrace.specs.declared.questions.QuestionsError.TheVariants as questions
 use Rattle.hosttrace.specs.declared.status.Refusal.{Refusal}
@@ -81,3 +93,35 @@ list_status list.OutOfMemory = NoMemory
 abbrev pub questions_status : QuestionsError → Status
 questions_status (questions.BadLine line) = Refused (BadList Questions line)
 questions_status questions.OutOfMemory = NoMemory
+
+-- the status that tells why words are no command
+abbrev pub words_status : WordsError → Status
+words_status words.Usage = Usage
+words_status words.OutOfMemory = NoMemory
+
+-- the status that tells why a store gave no answer
+abbrev pub store_status : StoreError → Status
+store_status store.Failed = ReadFault
+store_status store.OutOfMemory = NoMemory
+
+-- the status that tells why a file that has this limit wasn't read
+abbrev pub read_status : Limit → ReadError → Status
+read_status what read.Fault = ReadFault
+read_status what read.TooLarge = Refused (TooLarge what)
+read_status what read.OutOfMemory = NoMemory
+
+-- the status that tells why the metadata of this host declares no trace
+abbrev pub metadata_status : ℕ → MetadataError → Status
+metadata_status host (metadata.Refused cause) = Refused (BadMetadata host cause)
+metadata_status host metadata.OutOfMemory = NoMemory
+
+-- the status that tells why hosts' files can't be decoded
+abbrev pub decode_status : DecodeError → Status
+decode_status decode.TooManyPackets = Refused (TooLarge limit.Packets)
+decode_status decode.TooManyEvents = Refused TooManyEvents
+decode_status decode.OutOfMemory = NoMemory
+
+-- the status that tells why a text wasn't written
+abbrev pub sink_status : SinkError → Status
+sink_status sink.Failed = WriteFault
+sink_status sink.OutOfMemory = NoMemory

@@ -15,11 +15,12 @@ ghost use Rattle.hosttrace.specs.Refusals.{ClusterRefuses, LimitsRefuse, Reading
 ghost use Rattle.hosttrace.specs.Seen.{FailsBy, FailsOf, OnlyReads, store_seen};
 ghost use Rattle.hosttrace.specs.Streams.{AreHostsOf};
 
+use crate::causes::too_large;
 use crate::declared::declared_hosts;
-use crate::folders::{is_crowd, too_large};
-use crate::status::{Limit, Refusal, Status};
+use crate::folders::is_crowd;
+use crate::status::{Limit, Status};
 use crate::trace_files::read_trace_files;
-use decode_pool::{DecodeError, HostFiles, decode_all};
+use decode_pool::{HostFiles, decode_all};
 use event_list::MergedTrace;
 use host_sync::{SyncedHosts, synchronize};
 use ht_outside::Store;
@@ -115,9 +116,7 @@ fn synced_hosts(
 {
     let hosts = match decode_all(threads, alloc, hosts) {
         Ok(found) => found,
-        Err(DecodeError::TooManyPackets) => return Err(too_large(Limit::Packets)),
-        Err(DecodeError::TooManyEvents) => return Err(Status::Refused(Refusal::TooManyEvents)),
-        Err(DecodeError::OutOfMemory) => return Err(Status::NoMemory),
+        Err(error) => return Err(Status::from(error)),
     };
     let synced = synchronize(alloc, &hosts, drift)?;
     Ok(Cluster { hosts, synced })

@@ -1,14 +1,17 @@
 //! The top calls, and what each command does.
-ghost use Rattle.std.specs.Prelude.{◌≡◌, [], IfOk, IfErr, IfSome, map, string_bytes};
-ghost use Rattle.command_words.specs.Words.{HasRanges, InputHasRange, IsDrift};
+ghost use Rattle.std.specs.Prelude.{◌≡◌, [], ℕ, IfOk, IfErr, IfSome, map, string_bytes};
+ghost use Rattle.command_words.specs.Words.{HasRanges, InputHasRange, IsCommand, IsDrift};
+ghost use Rattle.command_words.specs.declared.command.Command.TheVariants.{Plain};
+ghost use Rattle.command_words.specs.declared.command.PlainCommand.TheVariants.{Make};
 ghost use Rattle.event_list.specs.Names.{lines_of, names_at};
 ghost use Rattle.hosttrace.specs.Means.{IsAskOutput, IsCheckOutput, IsEventsOutput, IsOutput, IsReportOutput, IsStateOutput};
-ghost use Rattle.hosttrace.specs.Outcome.{IsOutcome, IsPlainOutcome, Leaves, PlainLeaves, PlainMeans};
+ghost use Rattle.hosttrace.specs.Outcome.{IsOutcome, IsPlainOutcome, Leaves, PlainFails, PlainLeaves, PlainMeans, files_read};
 ghost use Rattle.hosttrace.specs.Outputs.{output_text};
-ghost use Rattle.hosttrace.specs.Refusals.{AskRefuses, CheckRefuses, ClusterRefuses, InputRefuses, Refuses};
+ghost use Rattle.hosttrace.specs.Refusals.{AskRefuses, CheckRefuses, ClusterRefuses, InputRefuses};
 ghost use Rattle.hosttrace.specs.Seen.{FailsBy, OnlyReads, not_seen, sink_seen, store_seen};
 ghost use Rattle.hosttrace.specs.Statuses.{IsTold};
 
+use crate::causes::too_large;
 use crate::clusters::{read_cluster, read_merge, report_of};
 use crate::folders::{is_crowd, read_folders};
 use crate::hosts::{check_text, read_hosts};
@@ -16,11 +19,11 @@ use crate::inputs::{read_asked, read_input};
 use crate::making::text_of_make;
 use crate::outputs::{Output, write_output};
 use crate::paths::{Window, text_of_path};
-use crate::status::{Limit, Refusal, Status};
+use crate::status::{Limit, Status};
 use crate::status_line::write_status;
-use command_words::{Command, Input, PlainCommand, WordsError, parse_words};
+use command_words::{Command, Input, PlainCommand, parse_words};
 use event_list::{MergedTrace, spell_bytes};
-use ht_outside::{Gate, Sink, SinkError, Store};
+use ht_outside::{Gate, Sink, Store};
 use report_views::{answers_text, state_text};
 use std::alloc::Global;
 use std::thread::Threads;
@@ -41,11 +44,11 @@ pub fn run<R: Threads + Sync, S: Store, K: Sink, E: Sink, G: Gate + Sync>(
     ensures leaves { Leaves (map string_bytes words.now) (record { store = store_seen S.holds S.faults store.old store.new; out = sink_seen K.contents K.faults out.old out.new; err = sink_seen E.contents E.faults err.old err.new }) result }
     ensures told { IsTold result (E.contents err.old) (E.contents err.new) (E.faults err.old) (E.faults err.new) }
     ensures reads { OnlyReads (store_seen S.holds S.faults store.old store.new) }
+    ensures apart { (number hosts rounds : ℕ) → IsCommand (map string_bytes words.now) (Plain (Make number hosts rounds)) → store.new ≡ store.old }
 {
     match parse_words(alloc, words) {
         Ok(Command::Plain(command)) => run_plain(rt, alloc, &command, store, out, err),
-        Err(WordsError::Usage) => write_status(alloc, Status::Usage, err),
-        Err(WordsError::OutOfMemory) => write_status(alloc, Status::NoMemory, err),
+        Err(error) => write_status(alloc, Status::from(error), err),
     }
 }
 
@@ -63,6 +66,7 @@ pub fn run_plain<R: Threads + Sync, S: Store, K: Sink, E: Sink>(
     ensures leaves { PlainLeaves command.now (record { store = store_seen S.holds S.faults store.old store.new; out = sink_seen K.contents K.faults out.old out.new; err = sink_seen E.contents E.faults err.old err.new }) result }
     ensures told { IsTold result (E.contents err.old) (E.contents err.new) (E.faults err.old) (E.faults err.new) }
     ensures reads { OnlyReads (store_seen S.holds S.faults store.old store.new) }
+    ensures apart { (number hosts rounds : ℕ) → command.now ≡ Make number hosts rounds → store.new ≡ store.old }
 {
     let status = perform(rt, alloc, command, store, out);
     write_status(alloc, status, err)
@@ -80,6 +84,7 @@ fn perform<S: Store, K: Sink>(
     ensures means { PlainMeans command.now (record { store = store_seen S.holds S.faults store.old store.new; out = sink_seen K.contents K.faults out.old out.new; err = not_seen }) result }
     ensures leaves { PlainLeaves command.now (record { store = store_seen S.holds S.faults store.old store.new; out = sink_seen K.contents K.faults out.old out.new; err = not_seen }) result }
     ensures reads { OnlyReads (store_seen S.holds S.faults store.old store.new) }
+    ensures apart { (number hosts rounds : ℕ) → command.now ≡ Make number hosts rounds → store.new ≡ store.old }
 {
     let output = match output_of(threads, alloc, command, store) {
         Ok(output) => output,
@@ -87,8 +92,7 @@ fn perform<S: Store, K: Sink>(
     };
     match write_output(threads, alloc, &output, out) {
         Ok(()) => Status::Done,
-        Err(SinkError::Failed) => Status::WriteFault,
-        Err(SinkError::OutOfMemory) => Status::NoMemory,
+        Err(error) => Status::from(error),
     }
 }
 
@@ -100,9 +104,10 @@ fn output_of<S: Store>(
     store: &mut S,
 ) -> Result<Output, Status>
     requires { HasRanges command.now }
-    ensures text { IfOk result (λ output. IfSome (S.holds store.old) (λ files. IsOutput command.now files (output_text output))) }
-    ensures fails { IfErr result (λ status. FailsBy (Refuses command.now) (store_seen S.holds S.faults store.old store.new) status) }
+    ensures text { IfOk result (λ output. IfSome (files_read command.now (S.holds store.old)) (λ files. IsOutput command.now files (output_text output))) }
+    ensures fails { IfErr result (λ status. PlainFails command.now (store_seen S.holds S.faults store.old store.new) status) }
     ensures reads { OnlyReads (store_seen S.holds S.faults store.old store.new) }
+    ensures apart { (number hosts rounds : ℕ) → command.now ≡ Make number hosts rounds → store.new ≡ store.old }
 {
     match command {
         PlainCommand::Check { folders } => {
@@ -156,8 +161,7 @@ fn text_of_check<S: Store>(
     ensures reads { OnlyReads (store_seen S.holds S.faults store.old store.new) }
 {
     if is_crowd(folders) {
-        let what = Limit::Hosts;
-        return Err(Status::Refused(Refusal::TooLarge { what }));
+        return Err(too_large(Limit::Hosts));
     }
     let files = read_folders(alloc, folders, store)?;
     let metas = read_hosts(alloc, &files)?;

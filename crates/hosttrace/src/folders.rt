@@ -4,12 +4,11 @@ ghost use Rattle.ht_outside.specs.Files.{ListsNames};
 ghost use Rattle.hosttrace.specs.Folders.{FILES_LIMIT, MAX_HOSTS, METADATA_LIMIT, AreRead, HasFewNames, HasMetadata, IsRead, is_shown, metadata_of};
 ghost use Rattle.hosttrace.specs.Refusals.{FolderRefuses, FoldersRefuse, NamesRefuse, SizeRefuses};
 ghost use Rattle.hosttrace.specs.Seen.{FailsBy, OnlyReads, store_seen};
-ghost use Rattle.hosttrace.specs.declared.status.Refusal.TheVariants.{TooLarge};
-ghost use Rattle.hosttrace.specs.declared.status.Status.TheVariants.{Refused};
 
-use crate::reading::{ReadError, read_file};
+use crate::causes::{too_large, unread};
+use crate::reading::read_file;
 use crate::status::{Limit, Refusal, Status};
-use ht_outside::{Store, StoreError};
+use ht_outside::Store;
 use sqlite_items::Items;
 use std::alloc::Global;
 use trace_types::{MAX_HOSTS, Text};
@@ -81,8 +80,7 @@ pub fn look_into<S: Store>(host: u32, dir: &[u8], store: &mut S) -> Result<Vec<T
 {
     let names = match store.names(dir) {
         Ok(names) => names,
-        Err(StoreError::Failed) => return Err(Status::ReadFault),
-        Err(StoreError::OutOfMemory) => return Err(Status::NoMemory),
+        Err(error) => return Err(Status::from(error)),
     };
     if shown(&names) > NAME_LIMIT {
         return Err(too_large(Limit::Names));
@@ -139,19 +137,10 @@ pub fn read_metadata_of<S: Store>(
 {
     let bytes = match read_file(alloc, store, dir, b"metadata", METADATA_LIMIT) {
         Ok(bytes) => bytes,
-        Err(ReadError::Fault) => return Err(Status::ReadFault),
-        Err(ReadError::TooLarge) => return Err(too_large(Limit::Metadata)),
-        Err(ReadError::OutOfMemory) => return Err(Status::NoMemory),
+        Err(error) => return Err(unread(Limit::Metadata, error)),
     };
     if bytes.len() > FILES_LIMIT - before {
         return Err(too_large(Limit::Files));
     }
     Ok(Items::from_vec(bytes))
-}
-
-/// The status of what passes a limit.
-pub fn too_large(what: Limit) -> Status
-    ensures { result ≡ Refused (TooLarge what) }
-{
-    Status::Refused(Refusal::TooLarge { what })
 }

@@ -8,7 +8,8 @@ ghost use Rattle.hosttrace.specs.Hosts.{AreTraces, host_line, host_lines};
 ghost use Rattle.hosttrace.specs.Refusals.{HostsRefuse, MetadataRefuses};
 ghost use Rattle.hosttrace.specs.Seen.{FailsOf};
 
-use crate::status::{Refusal, Status};
+use crate::causes::undeclared;
+use crate::status::Status;
 use sqlite_items::Items;
 use std::alloc::Global;
 use std::io::Write;
@@ -45,10 +46,7 @@ pub fn host_meta(host: u32, read: Result<TraceMeta, MetadataError>) -> Result<Tr
 {
     match read {
         Ok(meta) => Ok(meta),
-        Err(MetadataError::Refused(cause)) => {
-            Err(Status::Refused(Refusal::BadMetadata { host, cause }))
-        }
-        Err(MetadataError::OutOfMemory) => Err(Status::NoMemory),
+        Err(error) => Err(undeclared(host, error)),
     }
 }
 

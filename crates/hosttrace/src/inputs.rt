@@ -11,12 +11,13 @@ ghost use Rattle.hosttrace.specs.Seen.{FailsBy, OnlyReads, store_seen};
 ghost use Rattle.list_messages.specs.Places.{IsReadTrace};
 ghost use Rattle.report_views.specs.Asked.{IsQuestion};
 
+use crate::causes::{too_large, unread};
 use crate::clusters::read_merge;
-use crate::questions::{QuestionsError, is_crowded, read_questions};
-use crate::reading::{ReadError, read_file};
-use crate::status::{Limit, ListFile, Refusal, Status};
+use crate::questions::{is_crowded, read_questions};
+use crate::reading::read_file;
+use crate::status::{Limit, Status};
 use command_words::Input;
-use event_list::{ListError, MergedTrace, read_list};
+use event_list::{MergedTrace, read_list};
 use history_core::Question;
 use ht_outside::Store;
 use std::alloc::Global;
@@ -25,41 +26,6 @@ use trace_types::Text;
 
 /// How many bytes a list may have.
 pub const LIST_LIMIT: usize = 268_435_456;
-
-impl From<ListError> for Status {
-    ghost use Rattle.std.specs.Prelude.{◌≡◌};
-    ghost use Rattle.hosttrace.specs.Statuses.{list_status};
-
-    ghost from_gives = { λ error status. status ≡ list_status error };
-
-    fn from(error: ListError) -> Status {
-        match error {
-            ListError::BadLine { line } => {
-                let file = ListFile::Events;
-                Status::Refused(Refusal::BadList { file, line })
-            }
-            ListError::TooManyEvents => Status::Refused(Refusal::TooManyEvents),
-            ListError::OutOfMemory => Status::NoMemory,
-        }
-    }
-}
-
-impl From<QuestionsError> for Status {
-    ghost use Rattle.std.specs.Prelude.{◌≡◌};
-    ghost use Rattle.hosttrace.specs.Statuses.{questions_status};
-
-    ghost from_gives = { λ error status. status ≡ questions_status error };
-
-    fn from(error: QuestionsError) -> Status {
-        match error {
-            QuestionsError::BadLine { line } => {
-                let file = ListFile::Questions;
-                Status::Refused(Refusal::BadList { file, line })
-            }
-            QuestionsError::OutOfMemory => Status::NoMemory,
-        }
-    }
-}
 
 /// The trace of an input, or the status that tells why there is none.
 pub fn read_input<S: Store>(
@@ -111,8 +77,7 @@ pub fn read_asked<S: Store>(
 {
     let bytes = read_bytes(alloc, file, store)?;
     if is_crowded(&bytes) {
-        let what = Limit::Questions;
-        return Err(Status::Refused(Refusal::TooLarge { what }));
+        return Err(too_large(Limit::Questions));
     }
     Ok(read_questions(alloc, &bytes)?)
 }
@@ -126,8 +91,6 @@ fn read_bytes<S: Store>(alloc: Global, file: &Text, store: &mut S) -> Result<Vec
 {
     match read_file(alloc, store, b"", file.as_bytes(), LIST_LIMIT) {
         Ok(bytes) => Ok(bytes),
-        Err(ReadError::Fault) => Err(Status::ReadFault),
-        Err(ReadError::TooLarge) => Err(Status::Refused(Refusal::TooLarge { what: Limit::File })),
-        Err(ReadError::OutOfMemory) => Err(Status::NoMemory),
+        Err(error) => Err(unread(Limit::File, error)),
     }
 }

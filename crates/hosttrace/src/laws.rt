@@ -38,3 +38,8 @@ pub fn one_text()
     ensures good { (command : PlainCommand) (files : Files) (text : List ℕ) → IsOutput command files text → IsGood command files }
     ensures refused { (command : PlainCommand) (files : Files) (text : List ℕ) (refusal : Refusal) → IsOutput command files text → ¬ (Refuses command files refusal) }
 {}
+
+/// A command has at most one refusal over given files.
+pub fn one_refusal()
+    ensures { (command : PlainCommand) (files : Files) (a b : Refusal) → Refuses command files a → Refuses command files b → a ≡ b }
+{}

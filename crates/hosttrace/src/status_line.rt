@@ -7,7 +7,7 @@ ghost use Rattle.hosttrace.specs.declared.status.Status.TheVariants as statuses;
 
 use crate::status::{Limit, ListFile, Refusal, Status};
 use crate::writing::write_text;
-use ht_outside::{Sink, SinkError};
+use ht_outside::Sink;
 use std::alloc::Global;
 use std::fmt;
 use std::io::Write;
@@ -79,8 +79,7 @@ fn write_line<E: Sink>(status: Status, line: &[u8], err: &mut E) -> Status
 {
     match write_text(err, line) {
         Ok(()) => status,
-        Err(SinkError::Failed) => Status::WriteFault,
-        Err(SinkError::OutOfMemory) => Status::NoMemory,
+        Err(error) => Status::from(error),
     }
 }
 

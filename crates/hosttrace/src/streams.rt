@@ -10,9 +10,10 @@ ghost use Rattle.hosttrace.specs.Refusals.{StreamRefuses, StreamsRefuse};
 ghost use Rattle.hosttrace.specs.Seen.{FailsBy, OnlyReads, store_seen};
 ghost use Rattle.hosttrace.specs.Streams.{AreChosen, AreFiles, AreStreamsRead, IsNameNotAfter, StreamFits, is_stream_name, size_of, streams_size};
 
-use crate::folders::{FILES_LIMIT, is_shown, too_large};
+use crate::causes::{too_large, unread};
+use crate::folders::{FILES_LIMIT, is_shown};
 use crate::inputs::LIST_LIMIT;
-use crate::reading::{ReadError, read_file};
+use crate::reading::read_file;
 use crate::status::{Limit, Status};
 use decode_pool::FileBytes;
 use ht_outside::Store;
@@ -102,9 +103,7 @@ fn read_stream<S: Store>(
 {
     let bytes = match read_file(alloc, store, dir, name.as_bytes(), LIST_LIMIT) {
         Ok(bytes) => bytes,
-        Err(ReadError::Fault) => return Err(Status::ReadFault),
-        Err(ReadError::TooLarge) => return Err(too_large(Limit::File)),
-        Err(ReadError::OutOfMemory) => return Err(Status::NoMemory),
+        Err(error) => return Err(unread(Limit::File, error)),
     };
     if bytes.len() > FILES_LIMIT - before {
         return Err(too_large(Limit::Files));

@@ -1,10 +1,11 @@
 //! Paths and their numbers, and a history that is asked while it grows.
-ghost use Rattle.std.specs.Prelude.{IfOk};
+ghost use Rattle.std.specs.Prelude.{◌<◌, ◌^◌, IfOk};
 ghost use Rattle.history_core.specs.Agreement.{IsMerge};
 
 use attribute_tree::Attributes;
 use event_list::read_list;
 use history_core::{Answer, Asked, History};
+use history_nodes::Reads;
 use kernel_provider::Provider;
 use std::alloc::AllocGlobal;
 use std::process::Abort;
@@ -21,6 +22,12 @@ const TWO_SWITCHES: &[u8] = b"hosttrace events 1\n\
 const ONE_INSTANT: &[u8] = b"hosttrace events 1\n\
     100 0 0 100 switch 0 swapper/0 20 0 7 bash 20\n\
     100 0 0 100 switch 7 bash 20 1 8 vi 20\n";
+
+// The same, and then a soft interrupt.
+const ONE_INSTANT_AND_MORE: &[u8] = b"hosttrace events 1\n\
+    100 0 0 100 switch 0 swapper/0 20 0 7 bash 20\n\
+    100 0 0 100 switch 7 bash 20 1 8 vi 20\n\
+    250 0 0 250 soft-in 3\n";
 
 const CPU_0: Path = Path::Cpu {
     host: 0,
@@ -137,14 +144,65 @@ fn after_the_first_event(rt: HostRuntime) -> Result<(), Fail> {
     let count = 17;
     let answer = Answer::NotYet { built: 100 };
     assert_eq!(rt;
-        asked(&rt, ONE_INSTANT, 17, 100, CPU_0)?,
+        asked(&rt, ONE_INSTANT_AND_MORE, 17, 100, CPU_0)?,
         Asked { answer, count }
     );
     let answer = Answer::State(Value::Null);
     assert_eq!(rt;
-        asked(&rt, ONE_INSTANT, 17, 99, CPU_0)?,
+        asked(&rt, ONE_INSTANT_AND_MORE, 17, 99, CPU_0)?,
         Asked { answer, count }
     );
+    Ok(())
+}
+
+// The second switch at 100 has ten steps: the changes of bash's status and of the processor's thread, and four paths of
+// vi, each with its value. The step after them builds the history to 250.
+#[test]
+fn up_to_what_follows_an_instant(rt: HostRuntime) -> Result<(), Fail> {
+    let count = 27;
+    let answer = Answer::NotYet { built: 100 };
+    assert_eq!(rt;
+        asked(&rt, ONE_INSTANT_AND_MORE, 27, 100, CPU_0)?,
+        Asked { answer, count }
+    );
+    let count = 28;
+    let answer = Answer::State(Value::Int(8));
+    assert_eq!(rt;
+        asked(&rt, ONE_INSTANT_AND_MORE, 28, 100, CPU_0)?,
+        Asked { answer, count }
+    );
+    let answer = Answer::NotYet { built: 250 };
+    assert_eq!(rt;
+        asked(&rt, ONE_INSTANT_AND_MORE, 28, 250, CPU_0)?,
+        Asked { answer, count }
+    );
+    Ok(())
+}
+
+// The start of the stored interval of a number that holds an instant.
+fn stored(history: &History, number: usize, t: u64) -> Option<u64>
+    requires { t < 2 ^ 62 }
+{
+    let tree = history.tree();
+    let _levels = tree.levels();
+    let found = tree.find(number, t, &mut Reads::new());
+    let interval = found?;
+    let _value = interval.value;
+    Some(interval.start)
+}
+
+// Values that are there for no instant are no intervals, and what is open at the end is none either: with two switches at
+// one instant nothing is stored, before, at and after it.
+#[test]
+fn two_switches_at_one_instant_close_nothing(rt: HostRuntime) -> Result<(), Fail> {
+    let events = events_of(&rt, ONE_INSTANT)?;
+    let history = built(&rt, &events, 100)?;
+    assert_eq!(rt; history.built(), 1 << 62);
+    for number in 0..16 {
+        for t in [0, 99, 100, 101, 250, (1 << 62) - 1] {
+            assert!(rt; stored(&history, number, t).is_none(), "number {number} at {t}");
+        }
+    }
     Ok(())
 }
 

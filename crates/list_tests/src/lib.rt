@@ -9,6 +9,8 @@ pub mod lists;
 #[cfg(test)]
 mod names;
 #[cfg(test)]
+mod read_back;
+#[cfg(test)]
 mod small_texts;
 #[cfg(test)]
 mod step_runs;

@@ -55,7 +55,7 @@ fn stretches_of(
     ensures { IfOk result (λ stretches. AreOf history.now number from end stretches.items) }
 {
     let tree = history.tree();
-    let _nodes = tree.node_count();
+    let _count = tree.nodes().len();
     let mut reads = Reads::new();
     let intervals = tree.over(alloc, number, from, end - 1, &mut reads)?;
     let mut cover = Cover::new(alloc, from);

@@ -4,6 +4,7 @@ pub mod Listed
 pub mod AnswerLines
 pub mod Batches
 pub mod CallNames
+pub mod DiskLines
 pub mod ReportLines
 pub mod MarkCounts
 pub mod MessageCounts

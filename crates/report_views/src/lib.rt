@@ -6,6 +6,7 @@ mod call_lines;
 mod call_name;
 mod cause_word;
 mod clock_lines;
+mod disks;
 mod events;
 mod host_report;
 pub mod laws;
@@ -19,6 +20,7 @@ mod time_lines;
 mod value_text;
 
 pub use answers::answers_text;
+pub use disks::disks_text;
 pub use events::{BATCH_LENGTH, NAMES_SIZE, batch_length, batch_texts, events_head};
 pub use host_report::report;
 pub use long_names::{LONG_NAME, long_word, spelled_names};

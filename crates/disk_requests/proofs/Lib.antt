@@ -1,0 +1,7 @@
+pub mod Digits
+pub mod Listed
+pub mod Named
+pub mod OneAnswer
+pub mod OneMore
+pub mod Room
+pub mod Taken

@@ -1,0 +1,5 @@
+pub mod Devices
+pub mod Notes
+pub mod Order
+pub mod Requests
+pub mod Steps
