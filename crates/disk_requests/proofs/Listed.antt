@@ -1,12 +1,10 @@
 -- The devices of the table, in order.
-use Rattle.std.proofs.Common.{◌≡◌, ◌≢◌, ◌∙◌, ◌⊎◌, inl, inr, ℕ, zero, suc, ◌<◌, ◌≤◌, Bool, true, false, List, [], ◌∷◌, length, map, get_or, Option, None, Some, is_some, Contains, refl, sym, ap, ap₂, subst, arith, true≢false}
-use Rattle.std.specs.Prelude.{◌↔◌, IsPermutation, unwrap_or}
+use Rattle.std.proofs.Common.{◌≡◌, ◌∙◌, ◌⊎◌, inl, inr, ℕ, zero, suc, ◌<◌, Bool, true, false, List, [], ◌∷◌, length, map, get_or, Option, None, Some, is_some, Contains, refl, sym, ap, ap₂, subst, arith, true≢false}
+use Rattle.std.specs.Prelude.{IsPermutation, unwrap_or}
 use Rattle.std.specs.List.{AllByRecursion, AllPairs, IsDistinct}
 use Rattle.std.specs.Cmp.{IsEquivalence, IsTotalOrder, nat_cmp_total, then_total}
 use Rattle.std.specs.Map.{keys_of, values_of, lookup}
-use Rattle.std.specs.Ordering.{is_lt, nat_cmp, ordering_reverse, ordering_then, then_cmp}
-use Rattle.std.specs.declared.cmp.Ordering.{Ordering}
-use Rattle.std.specs.declared.cmp.Ordering.TheVariants.{Less, Equal, Greater}
+use Rattle.std.specs.Ordering.{is_lt, nat_cmp, then_cmp}
 use Rattle.std.proofs.lemmas.Bool.{cases_order}
 use Rattle.std.proofs.lemmas.Grind.{common_steps}
 use Rattle.std.proofs.lemmas.List.Sorted.{Contains-permutation, IsPermutation-map, IsPermutation-sym}
@@ -120,14 +118,14 @@ module _ (merged : List Merged) (waits : Target → Option Waiting) (es : List (
     pub listed : (ds : List Device) → IsPermutation (values_of es) ds → AllPairs IsNotAfter ds → AreDevices merged ds
     listed ds perm rises = record {
       members = λ x. (
-          (λ there.
-              let h = Contains-from_values_of es x (Contains-permutation ds (values_of es) x (IsPermutation-sym (values_of es) ds perm) there) in
-              let e = found h.0 x h.1 in
-              let k = key_at h.0 x h.1 in
-              (ap (is_named merged) k ∙ named_at h.0 x e, row_at h.0 x e ∙ ap (device_of merged) (sym k))),
-          (λ h.
-              let e : lookup (same_disk (disk_of x)) es ≡ Some x = row_named (disk_of x) h.0 ∙ ap Some (sym h.1) in
-              Contains-permutation (values_of es) ds x perm (Contains-values_of es (disk_of x) x (Contains-from_lookup disk_is (disk_of x) x es e))),
+        (λ there.
+            let h = Contains-from_values_of es x (Contains-permutation ds (values_of es) x (IsPermutation-sym (values_of es) ds perm) there) in
+            let e = found h.0 x h.1 in
+            let k = key_at h.0 x h.1 in
+            (ap (is_named merged) k ∙ named_at h.0 x e, row_at h.0 x e ∙ ap (device_of merged) (sym k))),
+        (λ h.
+            let e : lookup (same_disk (disk_of x)) es ≡ Some x = row_named (disk_of x) h.0 ∙ ap Some (sym h.1) in
+            Contains-permutation (values_of es) ds x perm (Contains-values_of es (disk_of x) x (Contains-from_lookup disk_is (disk_of x) x es e))),
       );
       order = in_order ds
           (IsDistinct-IsPermutation same_disk laws.symm (disks_of (values_of es)) (disks_of ds) (IsPermutation-map disk_of (values_of es) ds perm)

@@ -1,5 +1,5 @@
 -- What one more event makes of the events that name a request, and of the issues in no request.
-use Rattle.std.proofs.Common.{◌≡◌, ◌≢◌, ◌∙◌, ◌⊎◌, inl, inr, ℕ, ◌+◌, ◌<◌, Bool, true, false, cond, not, if◌then◌else◌, List, [], ◌∷◌, ◌++◌, Option, None, Some, is_some, refl, sym, ap, ap₂, subst, arith, rules, true≢false}
+use Rattle.std.proofs.Common.{◌≡◌, ◌∙◌, ℕ, ◌+◌, Bool, true, false, cond, not, if◌then◌else◌, List, [], ◌∷◌, ◌++◌, Option, None, Some, is_some, refl, sym, ap, ap₂, subst, arith, rules, true≢false}
 use Rattle.std.specs.Option.{option_and_then, option_or}
 use Rattle.trace_types.specs.declared.event.Merged.{Merged}
 use Rattle.disk_requests.specs.declared.act.Act.{Act}

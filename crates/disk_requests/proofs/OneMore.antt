@@ -1,7 +1,7 @@
 -- What one more event makes of what is told of a disk.
-use Rattle.std.proofs.Common.{◌≡◌, ◌∙◌, ℕ, zero, suc, ◌+◌, ◌-◌, ◌<◌, ◌≤◌, Bool, true, false, cond, not, ◌||◌, if◌then◌else◌, List, [], ◌∷◌, ◌++◌, length, map, filter, Option, None, Some, is_some, refl, sym, ap, ap₂, subst, arith, append-nil, append_assoc, ne_eqb, length-append}
+use Rattle.std.proofs.Common.{◌≡◌, ◌∙◌, ℕ, ◌+◌, ◌-◌, ◌<◌, Bool, true, false, cond, ◌||◌, if◌then◌else◌, List, [], ◌∷◌, ◌++◌, length, map, filter, Option, None, Some, is_some, refl, sym, ap, ap₂, subst, arith, append-nil, append_assoc, ne_eqb, length-append}
 use Rattle.std.specs.Prelude.{◌==◌, count_by, fold, max, min, is_none, option_map, option_to_list}
-use Rattle.std.specs.List.{list_any, range_with_len, sum_by}
+use Rattle.std.specs.List.{range_with_len}
 use Rattle.std.proofs.lemmas.List.{length-map, map-append}
 use Rattle.std.proofs.lemmas.List.Elements.{filter-append}
 use Rattle.std.proofs.lemmas.List.Folds.{list_any-append}
@@ -11,11 +11,10 @@ use Rattle.disk_requests.specs.declared.act.Act.{Act}
 use Rattle.disk_requests.specs.declared.act.Act.TheVariants.{Issue, Done, Other}
 use Rattle.disk_requests.specs.declared.act.Disk.{Disk}
 use Rattle.disk_requests.specs.declared.act.Target.{Target}
-use Rattle.disk_requests.specs.declared.device.Device.{Device}
 use Rattle.disk_requests.specs.declared.device.Waiting.{Waiting}
 use Rattle.disk_requests.specs.Devices.{device_of, greatest_of, has_digits, is_named, least_of, lone_dones_from, lone_issues, told}
 use Rattle.disk_requests.specs.Requests.{Served, act_of, all_served, is_lone_done, is_lone_issue, is_of, same_disk, served, served_by, served_from, waiting_after}
-use Rattle.disk_requests.specs.Steps.{completed, with_issue, with_lone_done, with_served}
+use Rattle.disk_requests.specs.Steps.{completed, with_issue, with_served}
 use Rattle.disk_requests.proofs.Digits.{counted_all}
 use Rattle.disk_requests.proofs.Named.{lone_one_more, pairs}
 

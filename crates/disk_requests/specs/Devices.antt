@@ -1,5 +1,5 @@
 -- What is told of each device of a merge (this project's own).
-use Rattle.std.specs.Prelude.{◌≡◌, ◌+◌, ◌*◌, ◌^◌, ◌<◌, ◌⊎◌, ◌↔◌, ◌&&◌, ◌==◌, ℕ, zero, suc, Bool, true, not, List, [], ◌∷◌, ◌++◌, Contains, cond, count_by, filter, fold, length, map, max, min, nat_lt}
+use Rattle.std.specs.Prelude.{◌≡◌, ◌+◌, ◌^◌, ◌<◌, ◌⊎◌, ◌↔◌, ◌&&◌, ◌==◌, ℕ, zero, suc, Bool, true, not, List, [], ◌∷◌, ◌++◌, Contains, cond, count_by, filter, fold, length, map, max, min, nat_lt}
 use Rattle.std.specs.List.{AllPairs, list_any, range_with_len, sum_by}
 use Rattle.trace_types.specs.declared.event.Merged.{Merged}
 use Rattle.disk_requests.specs.declared.act.Disk.{Disk}

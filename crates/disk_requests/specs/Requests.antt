@@ -1,5 +1,5 @@
 -- The requests of disks in a merge, by the places of their issues and completions (this project's own; Linux's block layer records these as block_rq_issue and block_rq_complete).
-use Rattle.std.specs.Prelude.{ℕ, ◌-◌, ◌||◌, Bool, true, false, not, List, [], ◌∷◌, ◌++◌, Option, None, Some, if◌then◌else◌, is_none, option_map, option_to_list}
+use Rattle.std.specs.Prelude.{ℕ, ◌-◌, Bool, true, false, not, List, [], ◌∷◌, ◌++◌, Option, None, Some, if◌then◌else◌, is_none, option_map, option_to_list}
 use Rattle.std.specs.Option.{option_and_then, option_or}
 use Rattle.trace_types.specs.declared.event.KernelEvent.{KernelEvent}
 use Rattle.trace_types.specs.declared.event.KernelEvent.TheVariants as event

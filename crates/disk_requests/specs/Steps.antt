@@ -1,5 +1,5 @@
 -- What one more event changes in what is told (this project's own).
-use Rattle.std.specs.Prelude.{◌≡◌, ◌+◌, ◌-◌, ◌*◌, ◌^◌, ◌<◌, ◌≤◌, ◌==◌, ℕ, zero, suc, Bool, List, [], ◌∷◌, Option, None, Some, cond, if◌then◌else◌, max, min, option_map, unwrap_or, IsSome}
+use Rattle.std.specs.Prelude.{◌+◌, ◌-◌, ◌*◌, ◌^◌, ◌<◌, ◌≤◌, ◌==◌, ℕ, List, [], ◌∷◌, Option, None, Some, cond, if◌then◌else◌, max, min, unwrap_or, IsSome}
 use Rattle.std.specs.List.{AllByRecursion}
 use Rattle.disk_requests.specs.declared.act.Act.{Act}
 use Rattle.disk_requests.specs.declared.act.Act.TheVariants.{Issue, Done, Other}
@@ -8,7 +8,7 @@ use Rattle.disk_requests.specs.declared.act.Target.{Target}
 use Rattle.disk_requests.specs.declared.device.Device.{Device}
 use Rattle.disk_requests.specs.declared.device.Waiting.{Waiting}
 use Rattle.disk_requests.specs.Devices.{has_digits, told}
-use Rattle.disk_requests.specs.Requests.{issue_of, same_disk, same_target}
+use Rattle.disk_requests.specs.Requests.{same_disk, same_target}
 
 -- a disk without requests
 abbrev pub blank : Disk → Device

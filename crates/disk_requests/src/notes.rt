@@ -18,12 +18,7 @@ pub type Waits = IndexMap<Target, Waiting>;
 pub type Devices = IndexMap<Disk, Device>;
 
 /// Notes what an event of this key does.
-pub fn note(
-    waits: &mut Waits,
-    devices: &mut Devices,
-    act: Act,
-    key: u64,
-) -> Result<(), OutOfMemory>
+pub fn note(waits: &mut Waits, devices: &mut Devices, act: Act, key: u64) -> Result<(), OutOfMemory>
     requires room { CanTake act (get same_target waits.old) (get same_disk devices.old) }
     requires unique { IsUnique same_disk devices.old }
     ensures waits { OnOk result ((t : Target) → get same_target waits.new t ≡ waits_after key act (get same_target waits.old) t) }

@@ -34,11 +34,7 @@ pub fn requests(alloc: Global, merged: &[Merged]) -> Result<DiskTable, OutOfMemo
     Ok(DiskTable { devices })
 }
 
-fn note_all(
-    waits: &mut Waits,
-    devices: &mut Devices,
-    merged: &[Merged],
-) -> Result<(), OutOfMemory>
+fn note_all(waits: &mut Waits, devices: &mut Devices, merged: &[Merged]) -> Result<(), OutOfMemory>
     requires waits { waits.old.entries ≡ [] }
     requires devices { devices.old.entries ≡ [] }
     requires unique { IsUnique same_disk devices.old }

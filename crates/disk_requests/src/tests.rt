@@ -104,8 +104,20 @@ fn great_numbers(rt: HostRuntime) -> Result<(), Fail> {
         issue(0, 0, 0xffff_ffff, 0xffff_ffff_ffff_ffff, 0xffff_ffff),
         issue(0, 0, 0xffff_ffff, 0, 0xffff_ffff),
         done(1, 0, 0xffff_ffff, 0, 0),
-        done(0x3fff_ffff_ffff_ffff, 0, 0xffff_ffff, 0xffff_ffff_ffff_ffff, 1),
-        done(0x3fff_ffff_ffff_ffff, 0, 0xffff_ffff, 0xffff_ffff_ffff_ffff, 1),
+        done(
+            0x3fff_ffff_ffff_ffff,
+            0,
+            0xffff_ffff,
+            0xffff_ffff_ffff_ffff,
+            1,
+        ),
+        done(
+            0x3fff_ffff_ffff_ffff,
+            0,
+            0xffff_ffff,
+            0xffff_ffff_ffff_ffff,
+            1,
+        ),
     ];
     let mut device = Device {
         requests: 2,

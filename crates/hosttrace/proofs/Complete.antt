@@ -13,7 +13,7 @@ use Rattle.command_words.specs.Words.{IsCommand}
 use Rattle.command_words.specs.declared.command.Command.{Command}
 use Rattle.command_words.specs.declared.command.Command.TheVariants.{Plain}
 use Rattle.command_words.specs.declared.command.PlainCommand.{PlainCommand}
-use Rattle.command_words.specs.declared.command.PlainCommand.TheVariants.{Check, Report, Events, State, Ask, Path, Make}
+use Rattle.command_words.specs.declared.command.PlainCommand.TheVariants.{Check, Report, Events, State, Ask, Path, Make, Range, Disks}
 use Rattle.command_words.specs.declared.words.WordsError.{WordsError}
 use Rattle.command_words.specs.declared.words.WordsError.TheVariants as no
 use Rattle.command_words.specs.declared.command.Input.{Input}
@@ -162,6 +162,8 @@ good (Ask source questions once) files refusal (inr h) g = good_questions (bytes
 good (Path source host tid from to) files refusal (inl h) g = good_input source files refusal h g.0
 good (Path source host tid from to) files refusal (inr (merged, placed, is, h)) g = good_thread merged host tid refusal h (g.1 merged placed is)
 good (Make number hosts rounds) files refusal h g = good_cluster (made_files number hosts rounds) (made_folders hosts) refusal h g
+good (Range source from to path) files refusal h g = good_input source files refusal h g
+good (Disks source) files refusal h g = good_input source files refusal h g
 
 -- what a command's refusal says of the files that it reads
 refused : (command : PlainCommand) (seen : Seen) (refusal : Refusal) → PlainMeans command seen (Refused refusal) → (files : Files) → files_read command seen.store.files ≡ Some files → Refuses command files refusal
@@ -172,6 +174,8 @@ refused (State source at) seen refusal m files e = told seen.store.files files _
 refused (Ask source questions once) seen refusal m files e = told seen.store.files files _ e m
 refused (Path source host tid from to) seen refusal m files e = told seen.store.files files _ e m
 refused (Make number hosts rounds) seen refusal m files e = m
+refused (Range source from to path) seen refusal m files e = told seen.store.files files _ e m
+refused (Disks source) seen refusal m files e = told seen.store.files files _ e m
 
 plain_complete : (command : PlainCommand) (seen : Seen) (status : Status) → PlainMeans command seen status → IsValid command seen → (status ≡ Done) ⊎ (status ≡ NoMemory)
 plain_complete command seen Done m v = inl refl

@@ -6,7 +6,7 @@ use Rattle.decode_pool.specs.Limits.{packet_count}
 use Rattle.decode_pool.specs.declared.hosts.HostFiles.{HostFiles}
 use Rattle.type_scope.specs.Traces.{trace}
 use Rattle.command_words.specs.declared.command.PlainCommand.{PlainCommand}
-use Rattle.command_words.specs.declared.command.PlainCommand.TheVariants.{Check, Report, Events, State, Ask, Path, Make}
+use Rattle.command_words.specs.declared.command.PlainCommand.TheVariants.{Check, Report, Events, State, Ask, Path, Make, Range, Disks}
 use Rattle.command_words.specs.declared.command.Input.{Input}
 use Rattle.command_words.specs.declared.command.Input.TheVariants as input
 use Rattle.hosttrace.specs.Folders.{metadata_of}
@@ -201,3 +201,5 @@ one_refusal (Path source host tid from to) files a b (inl h) (inr (merged, place
 one_refusal (Path source host tid from to) files a b (inr (merged, placed, is, h)) (inl g) = absurd (good_input source files b g (good_placed files source merged placed is))
 one_refusal (Path source host tid from to) files a b (inr (merged, placed, is, h)) (inr (others, again, js, g)) = (thread_is merged host tid a h).0 ∙ sym (thread_is others host tid b g).0
 one_refusal (Make number hosts rounds) files a b h g = one_cluster (made_files number hosts rounds) (made_folders hosts) a b h g
+one_refusal (Range source from to path) files a b h g = one_input files source a b h g
+one_refusal (Disks source) files a b h g = one_input files source a b h g

@@ -4,16 +4,19 @@ use Rattle.std.specs.Prelude.{flat_map}
 use Rattle.ht_outside.specs.Files.{Files, bytes_of}
 use Rattle.type_scope.specs.Traces.{Trace}
 use Rattle.trace_metadata.proofs.OneTrace.{one_trace}
+use Rattle.disk_requests.specs.Devices.{AreDevices}
+use Rattle.disk_requests.proofs.OneAnswer.{one_answer as one_table}
 use Rattle.event_list.proofs.OneList as list
 use Rattle.event_list.specs.Names.{lines_of, names_at}
 use Rattle.event_list.specs.declared.trace.MergedTrace.{MergedTrace}
 use Rattle.kernel_provider.specs.Replay.{state_at}
 use Rattle.report_views.specs.AnswersText.{asked_text}
+use Rattle.report_views.specs.DisksText.{disks_text}
 use Rattle.report_views.specs.StateText.{IsStateText, row_text}
 use Rattle.command_words.specs.declared.command.Input.{Input}
 use Rattle.command_words.specs.declared.command.Input.TheVariants as input
 use Rattle.command_words.specs.declared.command.PlainCommand.{PlainCommand}
-use Rattle.command_words.specs.declared.command.PlainCommand.TheVariants.{Ask, Check, Events, Make, Path, Report, State}
+use Rattle.command_words.specs.declared.command.PlainCommand.TheVariants.{Ask, Check, Disks, Events, Make, Path, Range, Report, State}
 use Rattle.trace_types.specs.declared.event.Merged.{Merged}
 use Rattle.trace_types.specs.declared.host.HostEvents.{HostEvents}
 use Rattle.host_merge.specs.declared.placed.Placed.{Placed}
@@ -23,7 +26,7 @@ use Rattle.host_sync.specs.Synced.{Synced}
 use Rattle.hosttrace.specs.Clusters.{AreSyncedTraces, IsCluster, IsInput}
 use Rattle.hosttrace.specs.Hosts.{AreTraces, host_lines}
 use Rattle.hosttrace.specs.Making.{IsMakeOutput, made_files, made_folders}
-use Rattle.hosttrace.specs.Means.{IsAskOutput, IsCheckOutput, IsEventsOutput, IsReportOutput, IsGood, IsGoodInput, IsOutput, IsStateOutput}
+use Rattle.hosttrace.specs.Means.{IsAskOutput, IsCheckOutput, IsDisksOutput, IsEventsOutput, IsReportOutput, IsGood, IsGoodInput, IsOutput, IsStateOutput}
 use Rattle.hosttrace.specs.Paths.{IsPathOutput, IsPathText, IsPlacedInput}
 use Rattle.hosttrace.specs.Refusals.{Refuses}
 use Rattle.hosttrace.specs.declared.status.Refusal.{Refusal}
@@ -87,6 +90,12 @@ one_answers_text files source questions a b h g =
     ∙ (ap (λ qs. flat_map (asked_text (names_at g.trace.names.items) (state_at g.trace.events.items)) qs) asked
     ∙ sym g.is_text)))
 
+one_disks_text : (files : Files) (source : Input) (a b : List ℕ) → IsDisksOutput files source a → IsDisksOutput files source b → a ≡ b
+one_disks_text files source a b h g =
+    let same = one_input files source h.trace g.trace h.is_input g.is_input in
+    let devices = one_table g.trace.events.items h.devices g.devices (subst (λ es. AreDevices es h.devices) same.0 h.are_devices) g.are_devices in
+    h.is_text ∙ (ap disks_text devices ∙ sym g.is_text)
+
 -- ---- one merge of an input with its messages
 
 pub one_placed_input : (files : Files) (source : Input) (merged others : List Merged) (placed again : List Placed) → IsPlacedInput source files merged placed → IsPlacedInput source files others again → (merged ≡ others) × (placed ≡ again)
@@ -123,6 +132,8 @@ one_text (State source at) files a b h g = one_state_text files source at a b h 
 one_text (Ask source questions once) files a b h g = one_answers_text files source questions a b h g
 one_text (Path source host tid from to) files a b h g = one_path_text files source host tid from to a b h g
 one_text (Make number hosts rounds) files a b h g = one_make_text number hosts rounds a b h g
+one_text (Range source from to path) files a b h g = absurd h
+one_text (Disks source) files a b h g = one_disks_text files source a b h g
 
 -- ---- files that have a text are good
 
@@ -148,6 +159,8 @@ good_files (State source at) files text h = input_is_good files source h.trace h
 good_files (Ask source questions once) files text h = (input_is_good files source h.trace h.is_input, (h.asked, h.are_asked))
 good_files (Path source host tid from to) files text h = good_path files source host tid from to text h
 good_files (Make number hosts rounds) files text h = good_traces (made_files number hosts rounds) (made_folders hosts) 1000 h.found h.synced h.traces
+good_files (Range source from to path) files text h = absurd h
+good_files (Disks source) files text h = input_is_good files source h.trace h.is_input
 
 pub never_refused : (command : PlainCommand) (files : Files) (text : List ℕ) (refusal : Refusal) → IsOutput command files text → Refuses command files refusal → ⊥
 never_refused command files text refusal h refused = good command files refusal refused (good_files command files text h)

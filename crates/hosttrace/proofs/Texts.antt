@@ -6,10 +6,13 @@ use Rattle.event_list.specs.declared.trace.MergedTrace.{MergedTrace}
 use Rattle.event_list.specs.Names.{names_at}
 use Rattle.history_core.specs.declared.question.Question.{Question}
 use Rattle.kernel_provider.specs.Replay.{state_at}
+use Rattle.disk_requests.specs.Devices.{AreDevices}
+use Rattle.disk_requests.specs.declared.device.Device.{Device}
 use Rattle.report_views.specs.AnswersText.{asked_text}
+use Rattle.report_views.specs.DisksText.{disks_text}
 use Rattle.report_views.specs.StateText.{IsStateText}
 use Rattle.hosttrace.specs.Inputs.{AreAsked}
-use Rattle.hosttrace.specs.Means.{IsAskOutput, IsStateOutput}
+use Rattle.hosttrace.specs.Means.{IsAskOutput, IsDisksOutput, IsStateOutput}
 use Rattle.hosttrace.specs.Clusters.{IsInput}
 use Rattle.hosttrace.specs.Refusals.{AskRefuses, InputRefuses, QuestionsRefuse, Refuses}
 use Rattle.hosttrace.specs.Seen.{FailsBy, StoreSeen}
@@ -27,6 +30,10 @@ pub ask_output : (o : Option Files) (source : Input) (questions : List ℕ) (tra
     → text ≡ flat_map (asked_text (names_at trace.names.items) (state_at trace.events.items)) asked → IfSome o (λ files. IsAskOutput files source questions text)
 ask_output None source questions trace asked text h g is = tt
 ask_output (Some files) source questions trace asked text h g is = record { trace = trace; is_input = h; asked = asked; are_asked = g; is_text = is }
+
+pub disks_output : (o : Option Files) (source : Input) (trace : MergedTrace) (devices : List Device) (text : List ℕ) → IfSome o (λ files. IsInput source files trace) → AreDevices trace.events.items devices → text ≡ disks_text devices → IfSome o (λ files. IsDisksOutput files source text)
+disks_output None source trace devices text h are is = tt
+disks_output (Some files) source trace devices text h are is = record { trace = trace; is_input = h; devices = devices; are_devices = are; is_text = is }
 
 -- after a good input the questions are refused
 pub asked_refused : (o : Option Files) (source : Input) (questions : List ℕ) (trace : MergedTrace) → IfSome o (λ files. IsInput source files trace) → IfSome o (λ files. (r : Refusal) → QuestionsRefuse (bytes_of files [] questions) r → AskRefuses files source questions r)

@@ -15,12 +15,15 @@ use Rattle.host_merge.specs.declared.placed.Placed.{Placed}
 use Rattle.host_sync.specs.Laws.{names_of_hosts}
 use Rattle.host_sync.specs.Synced.{Synced}
 use Rattle.history_core.specs.declared.question.Question.{Question}
+use Rattle.disk_requests.specs.Devices.{AreDevices}
+use Rattle.disk_requests.specs.declared.device.Device.{Device}
 use Rattle.report_views.specs.AnswersText.{asked_text}
+use Rattle.report_views.specs.DisksText.{disks_text}
 use Rattle.report_views.specs.Report.{report_text}
 use Rattle.report_views.specs.StateText.{IsStateText}
 use Rattle.wait_graph.specs.Named.{IsNamed}
 use Rattle.command_words.specs.declared.command.PlainCommand.{PlainCommand}
-use Rattle.command_words.specs.declared.command.PlainCommand.TheVariants.{Check, Report, Events, State, Ask, Path, Make}
+use Rattle.command_words.specs.declared.command.PlainCommand.TheVariants.{Check, Report, Events, State, Ask, Path, Make, Range, Disks}
 use Rattle.command_words.specs.declared.command.Input.{Input}
 use Rattle.command_words.specs.declared.command.Input.TheVariants as input
 use Rattle.hosttrace.specs.Clusters.{AreSyncedTraces, IsGoodCluster, IsInput, NoneInvertedInTrees, SendsFirst}
@@ -84,6 +87,14 @@ pub record IsAskOutput (files : Files) (source : Input) (questions text : List �
   pub are_asked : AreAsked (bytes_of files [] questions) asked
   pub is_text : text ≡ flat_map (asked_text (names_at trace.names.items) (state_at trace.events.items)) asked
 
+-- the text of the requests of disks, of an input: each device that its events name, in order, with what they tell of it
+pub record IsDisksOutput (files : Files) (source : Input) (text : List ℕ) : Type 0 where
+  pub trace : MergedTrace
+  pub is_input : IsInput source files trace
+  pub devices : List Device
+  pub are_devices : AreDevices trace.events.items devices
+  pub is_text : text ≡ disks_text devices
+
 -- the text of a command over these files; made traces are not among them
 abbrev pub IsOutput : PlainCommand → Files → List ℕ → Type 0
 IsOutput (Check folders) files text = IsCheckOutput files folders text
@@ -93,6 +104,8 @@ IsOutput (State source at) files text = IsStateOutput files source at text
 IsOutput (Ask source questions once) files text = IsAskOutput files source questions text
 IsOutput (Path source host tid from to) files text = IsPathOutput files source host tid from to text
 IsOutput (Make number hosts rounds) files text = IsMakeOutput number hosts rounds text
+IsOutput (Range source from to path) files text = ⊥
+IsOutput (Disks source) files text = IsDisksOutput files source text
 
 -- the files are good: the command has a text over them
 abbrev pub IsGood : PlainCommand → Files → Type 0
@@ -103,3 +116,5 @@ IsGood (State source at) files = IsGoodInput source files
 IsGood (Ask source questions once) files = IsGoodInput source files × ((asked : List Question) × AreAsked (bytes_of files [] questions) asked)
 IsGood (Path source host tid from to) files = IsGoodInput source files × ((merged : List Merged) (placed : List Placed) → IsPlacedInput source files merged placed → IsNamed merged host tid)
 IsGood (Make number hosts rounds) files = IsGoodCluster (made_files number hosts rounds) (made_folders hosts)
+IsGood (Range source from to path) files = IsGoodInput source files
+IsGood (Disks source) files = IsGoodInput source files

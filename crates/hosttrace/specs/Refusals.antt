@@ -12,7 +12,7 @@ use Rattle.event_list.specs.declared.parsed_line.ParsedLine.{ParsedLine}
 use Rattle.history_core.specs.declared.question.Question.{Question}
 use Rattle.event_list.specs.declared.trace.MergedTrace.{MergedTrace}
 use Rattle.command_words.specs.declared.command.PlainCommand.{PlainCommand}
-use Rattle.command_words.specs.declared.command.PlainCommand.TheVariants.{Check, Report, Events, State, Ask, Path, Make}
+use Rattle.command_words.specs.declared.command.PlainCommand.TheVariants.{Check, Report, Events, State, Ask, Path, Make, Range, Disks}
 use Rattle.command_words.specs.declared.command.Input.{Input}
 use Rattle.command_words.specs.declared.command.Input.TheVariants as input
 use Rattle.host_merge.specs.declared.placed.Placed.{Placed}
@@ -143,7 +143,7 @@ CheckRefuses files dirs refusal =
 abbrev pub ReadingRefuses : Files → List (List ℕ) → Refusal → Type 0
 ReadingRefuses files dirs refusal = TracesRefuse files 0 0 dirs refusal ⊎ (AreFolders files 0 dirs × HostsRefuse 0 (map (metadata_of files) dirs) refusal)
 
--- `report` and `events`, and `state`, `ask` and `path` over folders: the folders are too many, or their reading is refused, or, with all read, their hosts hold too much
+-- `report` and `events`, and the other commands but `check` over folders: the folders are too many, or their reading is refused, or, with all read, their hosts hold too much
 abbrev pub ClusterRefuses : Files → List (List ℕ) → Refusal → Type 0
 ClusterRefuses files dirs refusal =
     IsCrowd dirs refusal
@@ -151,7 +151,7 @@ ClusterRefuses files dirs refusal =
     × (ReadingRefuses files dirs refusal
     ⊎ ((hosts : List HostFiles) × AreHostsOf files dirs hosts × LimitsRefuse hosts refusal)))
 
--- `state`, `ask` and `path`: the list, or the folders
+-- `state`, `range` and `disks`, and `ask` and `path` first: the list, or the folders
 abbrev pub InputRefuses : Input → Files → Refusal → Type 0
 InputRefuses (input.List file) files refusal = ListRefuses (bytes_of files [] file) refusal
 InputRefuses (input.Folders dirs drift) files refusal = ClusterRefuses files dirs refusal
@@ -177,3 +177,5 @@ Refuses (State source at) = λ files refusal. InputRefuses source files refusal
 Refuses (Ask source questions once) = λ files refusal. AskRefuses files source questions refusal
 Refuses (Path source host tid from to) = λ files refusal. PathRefuses files source host tid refusal
 Refuses (Make number hosts rounds) = λ files refusal. MakeRefuses number hosts rounds refusal
+Refuses (Range source from to path) = λ files refusal. InputRefuses source files refusal
+Refuses (Disks source) = λ files refusal. InputRefuses source files refusal

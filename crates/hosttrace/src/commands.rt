@@ -13,6 +13,7 @@ ghost use Rattle.hosttrace.specs.Statuses.{IsTold};
 
 use crate::causes::too_large;
 use crate::clusters::{read_cluster, read_merge, report_of};
+use crate::disks::text_of_disks;
 use crate::folders::{is_crowd, read_folders};
 use crate::hosts::{check_text, read_hosts};
 use crate::inputs::{read_asked, read_input};
@@ -147,6 +148,10 @@ fn output_of<S: Store>(
             hosts,
             rounds,
         } => { Ok(Output::Text(text_of_make(threads, alloc, *number, *hosts, *rounds)?)) }
+        PlainCommand::Range { .. } => Err(Status::NoMemory),
+        PlainCommand::Disks { input } => {
+            Ok(Output::Text(text_of_disks(threads, alloc, input, store)?))
+        }
     }
 }
 

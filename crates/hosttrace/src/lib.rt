@@ -5,6 +5,7 @@ mod causes;
 mod clusters;
 mod commands;
 mod declared;
+mod disks;
 mod folders;
 mod hosts;
 mod inputs;

@@ -1,4 +1,4 @@
-use Rattle.std.proofs.Common.{◌+◌, ap, subst, sym, ◌∙◌}
+use Rattle.std.proofs.Common.{◌+◌, subst, sym}
 use Rattle.indexmap.specs.IndexMap.{get}
 use Rattle.disk_requests.specs.Requests.{same_disk}
 use Rattle.disk_requests.specs.Steps.{IsSmall}

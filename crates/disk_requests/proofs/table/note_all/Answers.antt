@@ -27,7 +27,7 @@ loop-event-preserved c =
     let rows = get same_disk c.loop-event.devices in
     let all : take (at + 1) merged ≡ take at merged ++ m ∷ [] = take_more merged at m c.loop-event-test.true ∙ ap (λ e. take at merged ++ e ∷ []) (sym c.event-item.is) in
     let noted = taken (take at merged) waits rows c.loop-event.invariant.0 m (get same_target c.note.new.waits) (get same_disk c.note.new.devices)
-        (λ t. c.in_ok-note.ensures.waits t ∙ ap (λ a. waits_after m.key a waits t) c.act_of.ensures)
-        (λ d. c.in_ok-note.ensures.devices d ∙ ap (λ a. rows_after m.key a waits rows d) c.act_of.ensures)
-        c.in_ok-note.ensures.small in
+    (λ t. c.in_ok-note.ensures.waits t ∙ ap (λ a. waits_after m.key a waits t) c.act_of.ensures)
+    (λ d. c.in_ok-note.ensures.devices d ∙ ap (λ a. rows_after m.key a waits rows d) c.act_of.ensures)
+    c.in_ok-note.ensures.small in
     (subst (λ es. Notes es (get same_target c.note.new.waits) (get same_disk c.note.new.devices)) (sym all) noted, c.in_ok-note.ensures.unique)
