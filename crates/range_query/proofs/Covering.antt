@@ -1,5 +1,5 @@
 -- What stretches that are made from intervals keep, and which values they have.
-use Rattle.std.proofs.Common.{◌≡◌, ◌⊎◌, inl, inr, ℕ, ◌+◌, ◌-◌, ◌<◌, ◌≤◌, min, Bool, true, false, cond, nat_lt, nat_le, MatchBool, List, [], ◌∷◌, Contains, Option, None, Some, refl, sym, ap, ◌∙◌, subst, arith}
+use Rattle.std.proofs.Common.{◌≡◌, ◌⊎◌, inl, inr, ℕ, ◌+◌, ◌-◌, ◌<◌, ◌≤◌, min, Bool, true, false, cond, nat_lt, List, [], ◌∷◌, Option, None, Some, refl, sym, ap, ◌∙◌, subst, arith}
 use Rattle.std.specs.List.{AllByRecursion}
 use Rattle.std.specs.Prelude.{unwrap_or}
 use Rattle.std.specs.FinMap.{get}
@@ -11,7 +11,7 @@ use Rattle.history_tree.specs.Records.{Content, IsHeld}
 use Rattle.history_tree.specs.Over.{FollowFrom, AreOver, HasStart}
 use Rattle.history_tree.proofs.Contents.{IsMember, contained, member_in, all_members}
 use Rattle.history_core.specs.declared.closed.Since.{Since}
-use Rattle.history_core.specs.Intervals.{EndBefore, IsHeldValue, IsValueSince}
+use Rattle.history_core.specs.Intervals.{EndBefore, IsValueSince}
 use Rattle.range_query.specs.declared.stretch.Stretch.{Stretch}
 use Rattle.range_query.specs.Stretches.{Tile, NeighboursDiffer}
 use Rattle.range_query.specs.Cover.{Covered, begun, put_on, extended, filled, ended}

@@ -10,7 +10,7 @@ use Rattle.history_core.specs.declared.question.Answer.{Answer}
 use Rattle.history_core.specs.declared.question.Answer.TheVariants.{State, NotYet}
 use Rattle.history_core.specs.Answers.{answer_after}
 use Rattle.range_query.specs.declared.stretch.Stretch.{Stretch}
-use Rattle.range_query.specs.Stretches.{Tile, DifferFrom, NeighboursDiffer, AreStretches, AnswerOne, AnswerEach, HaveOneAnswer}
+use Rattle.range_query.specs.Stretches.{Tile, DifferFrom, NeighboursDiffer, AreStretches, AnswerEach, HaveOneAnswer}
 use Rattle.range_query.proofs.Putting.{HasValue}
 use Rattle.range_query.proofs.Ranging.{tile_le}
 

@@ -1,5 +1,5 @@
 -- The stretches of a number are those of its path.
-use Rattle.std.proofs.Common.{◌≡◌, ℕ, ◌-◌, ◌<◌, ◌≤◌, List, [], ◌∷◌, Option, None, Some, refl, sym, ap, ◌∙◌, subst, arith}
+use Rattle.std.proofs.Common.{◌≡◌, ℕ, ◌<◌, ◌≤◌, List, [], ◌∷◌, None, Some, refl, sym, ap, ◌∙◌, subst, arith}
 use Rattle.std.specs.List.{AllByRecursion}
 use Rattle.trace_types.specs.declared.path.Path.{Path as AttributePath}
 use Rattle.trace_types.specs.declared.value.Value.{Value}
@@ -12,10 +12,10 @@ use Rattle.history_core.specs.Intervals.{open_at}
 use Rattle.history_core.specs.Stands.{HistoryModel, Stands}
 use Rattle.history_core.proofs.Answering.{numbered, answered}
 use Rattle.range_query.specs.declared.stretch.Stretch.{Stretch}
-use Rattle.range_query.specs.Stretches.{Tile, AreStretches, AnswerOne, AnswerEach}
+use Rattle.range_query.specs.Stretches.{Tile, AreStretches, AnswerEach}
 use Rattle.range_query.specs.Cover.{AreOf, begun, filled, ended}
 use Rattle.range_query.proofs.Putting.{HasValue}
-use Rattle.range_query.proofs.Covering.{IsCover, begun_cover, cover_filled, cover_ended, filled_below, ended_reach, all_values, Says}
+use Rattle.range_query.proofs.Covering.{IsCover, begun_cover, cover_filled, cover_ended, filled_below, ended_reach, all_values}
 
 -- stretches that tile a range end in it
 pub tile_le : (ss : List Stretch) (from to : ℕ) → Tile from ss to → from ≤ to

@@ -36,7 +36,13 @@ pub fn range(
     }
     let stretches = match history.number(path) {
         Some(number) => stretches_of(alloc, history, number, from, end)?,
-        None => vec![in alloc; Stretch { from, to: end, value: Value::Null }]?,
+        None => vec![in alloc;
+            Stretch {
+                from,
+                to: end,
+                value: Value::Null
+            },
+        ]?,
     };
     Ok(RangeAnswer { built, stretches })
 }

@@ -25,6 +25,6 @@ returns c =
     let last = c.len-count.result - 1 in
     let pushed : c.push.new.self.items ≡ ss ++ s ∷ [] = search rules in
     rw pushed (elim c.else-count-gt0.branch [
-      else-count-gt0-via-then-count-gt0+else-eq w ↦ (let n : length ss ≡ last + 1 = omega arith in let other : same_value (get_or ss last w.index.result.now).value s.value ≡ false = search rules in put_other s w.index.result.now ss last n other)
-    | else-count-gt0-via-else-count-gt0 w ↦ put_first s ss (omega arith)
+      | else-count-gt0-via-then-count-gt0+else-eq w ↦ (let n : length ss ≡ last + 1 = omega arith in let other : same_value (get_or ss last w.index.result.now).value s.value ≡ false = search rules in put_other s w.index.result.now ss last n other)
+      | else-count-gt0-via-else-count-gt0 w ↦ put_first s ss (omega arith)
     ])
