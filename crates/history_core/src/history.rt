@@ -1,12 +1,13 @@
 //! The history of attribute values, built step by step.
-ghost use Rattle.std.specs.Prelude.{◌≡◌, ◌<◌, ◌≤◌, ◌-◌, ◌^◌, ◌++◌, ◌∷◌, [], List, length, IfOk, OnOk, OnErr};
+ghost use Rattle.std.specs.Prelude.{◌≡◌, ◌<◌, ◌≤◌, ◌-◌, ◌^◌, ◌++◌, ◌∷◌, [], List, length, IfOk, IfSome, OnOk, OnErr};
 ghost use Rattle.kernel_provider.specs.declared.step.Step.{Step};
 ghost use Rattle.history_core.specs.Stands.{Stands, CanFollow};
 ghost use Rattle.history_core.specs.Answers.{answer_after};
 ghost use Rattle.history_nodes.specs.Nodes.{opened as new_node};
 ghost use Rattle.history_tree.specs.Records.{content_of};
 ghost use Rattle.history_tree.specs.Tree.{tree_of};
-ghost use Rattle.history_core.specs.Intervals.{parts_of, taken, AreKept, IsTreeAfterStep, IsValueIn};
+ghost use Rattle.attribute_tree.specs.Numbered.{number_among};
+ghost use Rattle.history_core.specs.Intervals.{open_at, parts_of, taken, AreKept, EndBefore, IsTreeAfterStep, IsValueIn};
 ghost use Rattle.history_core.specs.declared.question.Answer.TheVariants.{State, NotYet};
 ghost use Rattle.trace_types.specs.declared.value.Value.{Value};
 
@@ -109,6 +110,24 @@ impl History {
         ensures { result ≡ self.now.built }
     {
         self.built
+    }
+
+    /// The number of a path, if it was added.
+    pub fn number(&self, path: Path) -> Option<usize>
+        ensures number { result ≡ number_among self.now.paths path }
+        ensures there { IfSome result (λ n. n < length self.now.paths) }
+    {
+        self.attributes.find(path)
+    }
+
+    /// The value that a number has up to the built end, and since when; none before its first change. Its closed intervals
+    /// end before that.
+    pub fn since(&self, number: usize) -> Option<Since>
+        requires { number < length self.now.paths }
+        ensures since { result ≡ open_at self.now.opened number }
+        ensures older { EndBefore self.now.closed number result }
+    {
+        self.opened.get(number)
     }
 
     /// The tree whose content the closed intervals are.

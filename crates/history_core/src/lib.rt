@@ -8,6 +8,7 @@ mod opened;
 mod question;
 mod whole;
 
+pub use closed::Since;
 pub use history::History;
 pub use laws::answers_agree;
 pub use question::{Answer, Asked, Question};

@@ -1,5 +1,5 @@
 -- What is gathered over a range from nodes, and how many of them are read.
-use Rattle.std.proofs.Common.{◌≡◌, ◌⊎◌, inl, inr, ℕ, zero, suc, ◌+◌, ◌<◌, ◌≤◌, Bool, true, false, ◌&&◌, ◌==◌, nat_le, cond, eqb, List, [], ◌∷◌, ◌++◌, length, map, filter, flat_map, take, Contains, refl, sym, ap, ◌∙◌, subst, arith}
+use Rattle.std.proofs.Common.{◌≡◌, ◌⊎◌, inl, inr, ℕ, zero, suc, ◌+◌, ◌<◌, ◌≤◌, Bool, true, false, ◌&&◌, ◌==◌, nat_le, cond, eqb, List, [], ◌∷◌, ◌++◌, length, map, filter, flat_map, take, refl, sym, ◌∙◌, subst, arith}
 use Rattle.std.specs.List.{AllByRecursion, IsDistinct, slice_index}
 use Rattle.std.specs.List.Sorted.{IsStrictlyIncreasing}
 use Rattle.std.proofs.lemmas.Bool.{leb-true, eqb-true, le-leb, eq-eqb}
@@ -8,11 +8,11 @@ use Rattle.std.proofs.lemmas.Map.Keys.{IsDistinct-cons, IsDistinct-from_apart}
 use Rattle.history_nodes.specs.declared.interval.Interval.{Interval}
 use Rattle.history_nodes.specs.declared.node.Node.{Node}
 use Rattle.history_nodes.specs.Nodes.{node_at, opened}
-use Rattle.history_tree.specs.Records.{records_of, IsAt, IsApart, AreApart}
+use Rattle.history_tree.specs.Records.{records_of, IsApart, AreApart}
 use Rattle.history_tree.specs.Tree.{IsAmong}
 use Rattle.history_tree.specs.declared.over.Sought.{Sought}
 use Rattle.history_tree.specs.Over.{IsMet, meets, is_sought, may_hold, sought_in, start_in}
-use Rattle.history_tree.proofs.Stored.{all_left, all_right, all_both}
+use Rattle.history_tree.proofs.Stored.{all_left, all_both}
 use Rattle.history_tree.proofs.Contents.{IsMember, member_left, member_right, member_split, member_has, all_members}
 use Rattle.history_tree.proofs.Seeking.{node_member}
 use Rattle.history_tree.proofs.Indexing.{member_there}

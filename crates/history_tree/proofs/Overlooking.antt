@@ -1,5 +1,5 @@
 -- What is gathered over a range, in order, is what the content has there.
-use Rattle.std.proofs.Common.{◌≡◌, ◌⊎◌, inl, inr, ◌↔◌, ℕ, suc, ◌+◌, ◌<◌, ◌≤◌, Bool, true, false, nat_le, eqb, List, [], ◌∷◌, length, map, flat_map, get_or, Contains, Some, refl, sym, ap, ◌∙◌, subst, arith}
+use Rattle.std.proofs.Common.{◌≡◌, ◌⊎◌, inl, inr, ◌↔◌, ℕ, ◌+◌, ◌<◌, ◌≤◌, Bool, true, false, eqb, List, [], ◌∷◌, length, map, flat_map, get_or, Contains, Some, refl, sym, ap, ◌∙◌, subst, arith}
 use Rattle.std.specs.List.{AllByRecursion}
 use Rattle.std.specs.List.Sorted.{IsNonDecreasingBy, IsNonDecreasing, IsStrictlyIncreasing, IsPermutation}
 use Rattle.std.specs.FinMap.{get}
@@ -14,12 +14,12 @@ use Rattle.history_nodes.specs.Nodes.{node_at, end_of}
 use Rattle.history_tree.specs.declared.over.Sought.{Sought}
 use Rattle.history_tree.specs.declared.places.Place.{Place}
 use Rattle.history_tree.specs.Places.{PlaceList, places_of, place_of}
-use Rattle.history_tree.specs.Records.{records_of, content_of, IsAt, IsHeld}
+use Rattle.history_tree.specs.Records.{records_of, content_of}
 use Rattle.history_tree.specs.Tree.{NodeTree, IsTree, IsInside, IsAmong}
 use Rattle.history_tree.specs.Index.{AreIndexed}
-use Rattle.history_tree.specs.Over.{IsMet, FollowFrom, HasStart, AreOver, MayMeet, HasLater, may_hold, is_sought, sought_in, node_of, start_in}
+use Rattle.history_tree.specs.Over.{IsMet, FollowFrom, HasStart, AreOver, MayMeet, HasLater, may_hold, sought_in, node_of, start_in}
 use Rattle.history_tree.proofs.Contents.{IsMember, contained, member_in, member_has, all_members, apart_same, get_member, get_found, key_number, key_start}
-use Rattle.history_tree.proofs.Seeking.{IsStoredIn, member_node, node_member}
+use Rattle.history_tree.proofs.Seeking.{member_node, node_member}
 use Rattle.history_tree.proofs.Filling.{filled_at}
 use Rattle.history_tree.proofs.Indexing.{contains_cases, contains_none, contains_here, member_there}
 use Rattle.history_tree.proofs.Contents.{contains_behind}

@@ -1,11 +1,11 @@
 -- Of sorted places those whose intervals may meet a range.
-use Rattle.std.proofs.Common.{◌≡◌, ◌⊎◌, inl, inr, ℕ, suc, ◌+◌, ◌-◌, ◌<◌, ◌≤◌, List, [], ◌∷◌, length, get_or, take, drop, Contains, sym, ap, ◌∙◌, arith}
+use Rattle.std.proofs.Common.{◌≡◌, ◌⊎◌, inl, inr, ℕ, ◌+◌, ◌-◌, ◌<◌, ◌≤◌, List, length, get_or, take, drop, Contains, sym, ap, ◌∙◌, arith}
 use Rattle.std.specs.List.Sorted.{IsNonDecreasingBy}
 use Rattle.std.proofs.lemmas.Bool.{cases_order}
 use Rattle.std.proofs.lemmas.List.{length-take, length-drop, get_or-take, get_or-drop, get_or_default}
 use Rattle.history_tree.specs.declared.places.Place.{Place}
 use Rattle.history_tree.specs.Places.{start_of, IsBegunCount}
-use Rattle.history_tree.specs.Over.{HasLater, MayMeet}
+use Rattle.history_tree.specs.Over.{MayMeet}
 
 -- what stands at a place between two others stands in the slice between them
 pub in_slice : {A : Type 0} (xs : List A) (a n k : ℕ) (x : A) → a ≤ k → k < a + n → k < length xs → get_or xs k x ≡ x → Contains (take n (drop a xs)) x

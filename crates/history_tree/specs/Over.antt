@@ -1,5 +1,5 @@
 -- What is stored over a range of instants (after the two-dimensional queries of Trace Compass's state system).
-use Rattle.std.specs.Prelude.{◌≡◌, ℕ, ◌+◌, ◌<◌, ◌≤◌, ◌==◌, ◌&&◌, nat_le, Bool, if◌then◌else◌, List, [], ◌∷◌, length, filter, flat_map, Contains, Some}
+use Rattle.std.specs.Prelude.{◌≡◌, ℕ, ◌+◌, ◌<◌, ◌≤◌, ◌==◌, ◌&&◌, nat_le, Bool, if◌then◌else◌, List, [], ◌∷◌, length, filter, Contains, Some}
 use Rattle.std.specs.FinMap.{get}
 use Rattle.trace_types.specs.declared.value.Value.{Value}
 use Rattle.history_nodes.specs.declared.interval.Interval.{Interval}

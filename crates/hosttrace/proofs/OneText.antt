@@ -13,6 +13,9 @@ use Rattle.kernel_provider.specs.Replay.{state_at}
 use Rattle.report_views.specs.AnswersText.{asked_text}
 use Rattle.report_views.specs.DisksText.{disks_text}
 use Rattle.report_views.specs.StateText.{IsStateText, row_text}
+use Rattle.report_views.specs.StretchesText.{IsRangeText}
+use Rattle.report_views.proofs.StretchLines.{one_range_text}
+use Rattle.trace_types.specs.declared.path.Path.{Path as AttributePath}
 use Rattle.command_words.specs.declared.command.Input.{Input}
 use Rattle.command_words.specs.declared.command.Input.TheVariants as input
 use Rattle.command_words.specs.declared.command.PlainCommand.{PlainCommand}
@@ -26,7 +29,7 @@ use Rattle.host_sync.specs.Synced.{Synced}
 use Rattle.hosttrace.specs.Clusters.{AreSyncedTraces, IsCluster, IsInput}
 use Rattle.hosttrace.specs.Hosts.{AreTraces, host_lines}
 use Rattle.hosttrace.specs.Making.{IsMakeOutput, made_files, made_folders}
-use Rattle.hosttrace.specs.Means.{IsAskOutput, IsCheckOutput, IsDisksOutput, IsEventsOutput, IsReportOutput, IsGood, IsGoodInput, IsOutput, IsStateOutput}
+use Rattle.hosttrace.specs.Means.{IsAskOutput, IsCheckOutput, IsDisksOutput, IsEventsOutput, IsRangeOutput, IsReportOutput, IsGood, IsGoodInput, IsOutput, IsStateOutput}
 use Rattle.hosttrace.specs.Paths.{IsPathOutput, IsPathText, IsPlacedInput}
 use Rattle.hosttrace.specs.Refusals.{Refuses}
 use Rattle.hosttrace.specs.declared.status.Refusal.{Refusal}
@@ -90,6 +93,12 @@ one_answers_text files source questions a b h g =
     ∙ (ap (λ qs. flat_map (asked_text (names_at g.trace.names.items) (state_at g.trace.events.items)) qs) asked
     ∙ sym g.is_text)))
 
+one_stretches_text : (files : Files) (source : Input) (from to : ℕ) (path : AttributePath) (a b : List ℕ) → IsRangeOutput files source from to path a → IsRangeOutput files source from to path b → a ≡ b
+one_stretches_text files source from to path a b h g =
+    let same = one_input files source h.trace g.trace h.is_input g.is_input in
+    let text : IsRangeText (names_at g.trace.names.items) (state_at g.trace.events.items) from to path a = subst₂ (λ names es. IsRangeText (names_at names) (state_at es) from to path a) same.1 same.0 h.is_text in
+    one_range_text (names_at g.trace.names.items) (state_at g.trace.events.items) from to path a b text g.is_text
+
 one_disks_text : (files : Files) (source : Input) (a b : List ℕ) → IsDisksOutput files source a → IsDisksOutput files source b → a ≡ b
 one_disks_text files source a b h g =
     let same = one_input files source h.trace g.trace h.is_input g.is_input in
@@ -132,7 +141,7 @@ one_text (State source at) files a b h g = one_state_text files source at a b h 
 one_text (Ask source questions once) files a b h g = one_answers_text files source questions a b h g
 one_text (Path source host tid from to) files a b h g = one_path_text files source host tid from to a b h g
 one_text (Make number hosts rounds) files a b h g = one_make_text number hosts rounds a b h g
-one_text (Range source from to path) files a b h g = absurd h
+one_text (Range source from to path) files a b h g = one_stretches_text files source from to path a b h g
 one_text (Disks source) files a b h g = one_disks_text files source a b h g
 
 -- ---- files that have a text are good
@@ -159,7 +168,7 @@ good_files (State source at) files text h = input_is_good files source h.trace h
 good_files (Ask source questions once) files text h = (input_is_good files source h.trace h.is_input, (h.asked, h.are_asked))
 good_files (Path source host tid from to) files text h = good_path files source host tid from to text h
 good_files (Make number hosts rounds) files text h = good_traces (made_files number hosts rounds) (made_folders hosts) 1000 h.found h.synced h.traces
-good_files (Range source from to path) files text h = absurd h
+good_files (Range source from to path) files text h = input_is_good files source h.trace h.is_input
 good_files (Disks source) files text h = input_is_good files source h.trace h.is_input
 
 pub never_refused : (command : PlainCommand) (files : Files) (text : List ℕ) (refusal : Refusal) → IsOutput command files text → Refuses command files refusal → ⊥

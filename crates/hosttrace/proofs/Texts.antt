@@ -11,8 +11,10 @@ use Rattle.disk_requests.specs.declared.device.Device.{Device}
 use Rattle.report_views.specs.AnswersText.{asked_text}
 use Rattle.report_views.specs.DisksText.{disks_text}
 use Rattle.report_views.specs.StateText.{IsStateText}
+use Rattle.report_views.specs.StretchesText.{IsRangeText}
+use Rattle.trace_types.specs.declared.path.Path.{Path as AttributePath}
 use Rattle.hosttrace.specs.Inputs.{AreAsked}
-use Rattle.hosttrace.specs.Means.{IsAskOutput, IsDisksOutput, IsStateOutput}
+use Rattle.hosttrace.specs.Means.{IsAskOutput, IsDisksOutput, IsRangeOutput, IsStateOutput}
 use Rattle.hosttrace.specs.Clusters.{IsInput}
 use Rattle.hosttrace.specs.Refusals.{AskRefuses, InputRefuses, QuestionsRefuse, Refuses}
 use Rattle.hosttrace.specs.Seen.{FailsBy, StoreSeen}
@@ -30,6 +32,10 @@ pub ask_output : (o : Option Files) (source : Input) (questions : List ℕ) (tra
     → text ≡ flat_map (asked_text (names_at trace.names.items) (state_at trace.events.items)) asked → IfSome o (λ files. IsAskOutput files source questions text)
 ask_output None source questions trace asked text h g is = tt
 ask_output (Some files) source questions trace asked text h g is = record { trace = trace; is_input = h; asked = asked; are_asked = g; is_text = is }
+
+pub range_output : (o : Option Files) (source : Input) (from to : ℕ) (path : AttributePath) (trace : MergedTrace) (text : List ℕ) → IfSome o (λ files. IsInput source files trace) → IsRangeText (names_at trace.names.items) (state_at trace.events.items) from to path text → IfSome o (λ files. IsRangeOutput files source from to path text)
+range_output None source from to path trace text h is = tt
+range_output (Some files) source from to path trace text h is = record { trace = trace; is_input = h; is_text = is }
 
 pub disks_output : (o : Option Files) (source : Input) (trace : MergedTrace) (devices : List Device) (text : List ℕ) → IfSome o (λ files. IsInput source files trace) → AreDevices trace.events.items devices → text ≡ disks_text devices → IfSome o (λ files. IsDisksOutput files source text)
 disks_output None source trace devices text h are is = tt

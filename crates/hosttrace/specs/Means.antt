@@ -9,6 +9,7 @@ use Rattle.ht_outside.specs.Files.{Files, bytes_of}
 use Rattle.kernel_provider.specs.Replay.{state_at}
 use Rattle.type_scope.specs.Traces.{Trace}
 use Rattle.trace_types.specs.declared.event.Merged.{Merged}
+use Rattle.trace_types.specs.declared.path.Path.{Path as AttributePath}
 use Rattle.trace_types.specs.declared.host.HostEvents.{HostEvents}
 use Rattle.host_merge.specs.Kept.{KeepsOrder}
 use Rattle.host_merge.specs.declared.placed.Placed.{Placed}
@@ -21,6 +22,7 @@ use Rattle.report_views.specs.AnswersText.{asked_text}
 use Rattle.report_views.specs.DisksText.{disks_text}
 use Rattle.report_views.specs.Report.{report_text}
 use Rattle.report_views.specs.StateText.{IsStateText}
+use Rattle.report_views.specs.StretchesText.{IsRangeText}
 use Rattle.wait_graph.specs.Named.{IsNamed}
 use Rattle.command_words.specs.declared.command.PlainCommand.{PlainCommand}
 use Rattle.command_words.specs.declared.command.PlainCommand.TheVariants.{Check, Report, Events, State, Ask, Path, Make, Range, Disks}
@@ -87,6 +89,12 @@ pub record IsAskOutput (files : Files) (source : Input) (questions text : List �
   pub are_asked : AreAsked (bytes_of files [] questions) asked
   pub is_text : text ≡ flat_map (asked_text (names_at trace.names.items) (state_at trace.events.items)) asked
 
+-- the text of how an attribute's value changed over a range, of an input: a line for each stretch of one value on replaying the trace to its instants
+pub record IsRangeOutput (files : Files) (source : Input) (from to : ℕ) (path : AttributePath) (text : List ℕ) : Type 0 where
+  pub trace : MergedTrace
+  pub is_input : IsInput source files trace
+  pub is_text : IsRangeText (names_at trace.names.items) (state_at trace.events.items) from to path text
+
 -- the text of the requests of disks, of an input: each device that its events name, in order, with what they tell of it
 pub record IsDisksOutput (files : Files) (source : Input) (text : List ℕ) : Type 0 where
   pub trace : MergedTrace
@@ -104,7 +112,7 @@ IsOutput (State source at) files text = IsStateOutput files source at text
 IsOutput (Ask source questions once) files text = IsAskOutput files source questions text
 IsOutput (Path source host tid from to) files text = IsPathOutput files source host tid from to text
 IsOutput (Make number hosts rounds) files text = IsMakeOutput number hosts rounds text
-IsOutput (Range source from to path) files text = ⊥
+IsOutput (Range source from to path) files text = IsRangeOutput files source from to path text
 IsOutput (Disks source) files text = IsDisksOutput files source text
 
 -- the files are good: the command has a text over them

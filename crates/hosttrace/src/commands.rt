@@ -20,6 +20,7 @@ use crate::inputs::{read_asked, read_input};
 use crate::making::text_of_make;
 use crate::outputs::{Output, write_output};
 use crate::paths::{Window, text_of_path};
+use crate::ranges::{Span, text_of_range};
 use crate::status::{Limit, Status};
 use crate::status_line::write_status;
 use command_words::{Command, Input, PlainCommand, parse_words};
@@ -148,7 +149,19 @@ fn output_of<S: Store>(
             hosts,
             rounds,
         } => { Ok(Output::Text(text_of_make(threads, alloc, *number, *hosts, *rounds)?)) }
-        PlainCommand::Range { .. } => Err(Status::NoMemory),
+        PlainCommand::Range {
+            input,
+            from,
+            to,
+            path,
+        } => {
+            let span = Span {
+                from: *from,
+                to: *to,
+                path: *path,
+            };
+            Ok(Output::Text(text_of_range(threads, alloc, input, span, store)?))
+        }
         PlainCommand::Disks { input } => {
             Ok(Output::Text(text_of_disks(threads, alloc, input, store)?))
         }

@@ -15,6 +15,7 @@ mod making;
 mod outputs;
 mod paths;
 mod questions;
+mod ranges;
 mod reading;
 mod status;
 mod status_line;

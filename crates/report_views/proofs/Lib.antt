@@ -13,3 +13,4 @@ pub mod Stretches
 pub mod Ordered
 pub mod TimeLines
 pub mod CallLines
+pub mod StretchLines

@@ -8,6 +8,7 @@ pub mod Report
 pub mod SameReport
 pub mod Made
 pub mod Stretches
+pub mod StretchesText
 pub mod DisksText
 pub mod LongNames
 pub mod Ordered

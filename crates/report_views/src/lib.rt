@@ -16,6 +16,7 @@ mod marks;
 mod pieces;
 mod rows;
 mod state;
+mod stretch_lines;
 mod time_lines;
 mod value_text;
 
@@ -27,3 +28,4 @@ pub use long_names::{LONG_NAME, long_word, spelled_names};
 pub use made::made_text;
 pub use pieces::pieces_text;
 pub use state::state_text;
+pub use stretch_lines::{range_text, stretches_text};

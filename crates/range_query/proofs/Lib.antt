@@ -1,0 +1,4 @@
+pub mod Putting
+pub mod Covering
+pub mod Ranging
+pub mod OneAnswer
