@@ -1,0 +1,89 @@
+//! The rule of the table, and what each step tells.
+
+use crate::tally::Tally;
+use crate::view::View;
+use atomic_table::{Join, Play, Split, TableRule};
+use std::marker::{Brand, PhantomData};
+
+pub struct Law;
+
+impl TableRule<Option<Tally>, View, ()> for Law {
+    ghost use Rattle.history_lock.specs.Turn.{Keeps, unborn};
+
+    ghost holds = { λ _. Keeps };
+
+    ghost first = { λ _. unborn };
+}
+
+/// The plan that a table is opened with.
+pub trait Planned {
+    ghost use Rattle.std.specs.Prelude.{ℕ, List};
+
+    ghost plan: { List ℕ };
+}
+
+impl Planned for Brand {
+    ghost use Rattle.std.specs.Prelude.{[]};
+
+    ghost plan = { [] };
+}
+
+pub struct Begin<J: Planned> {
+    marker: PhantomData<J>,
+}
+
+impl<J: Planned> Play<Option<Tally>, View> for Begin<J> {
+    ghost use Rattle.history_lock.specs.Turn.{Begins};
+
+    ghost then = { Begins J.plan };
+}
+
+pub struct Take;
+
+impl Play<Option<Tally>, View> for Take {
+    ghost use Rattle.history_lock.specs.Turn.{Takes};
+
+    ghost then = { Takes };
+}
+
+pub struct Look;
+
+impl Play<Option<Tally>, View> for Look {
+    ghost use Rattle.history_lock.specs.Turn.{Looks};
+
+    ghost then = { Looks };
+}
+
+pub struct Bump;
+
+impl Play<Option<Tally>, View> for Bump {
+    ghost use Rattle.history_lock.specs.Turn.{Bumps};
+
+    ghost then = { Bumps };
+}
+
+pub struct Give;
+
+impl Play<Option<Tally>, View> for Give {
+    ghost use Rattle.history_lock.specs.Turn.{Gives};
+
+    ghost then = { Gives };
+}
+
+pub struct Pair;
+
+impl Split<View> for Pair {
+    ghost use Rattle.history_lock.specs.Turn.{newcomer};
+
+    ghost left = { λ v. v };
+
+    ghost right = { newcomer };
+}
+
+impl Join<View> for Pair {
+    ghost use Rattle.history_lock.specs.Turn.{informed, spent};
+
+    ghost both = { informed };
+
+    ghost spent = { spent };
+}
