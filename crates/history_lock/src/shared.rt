@@ -1,186 +1,280 @@
-//! The steps of the callers.
-ghost use Rattle.std.specs.Prelude.{◌≡◌, ℕ, ◌+◌, ◌≤◌, ◌<◌, ◌^◌, true, false, [], ◌∷◌, ◌++◌, length, Some, IfOk, IfSome, IfNone, MatchBool, None, slice_index, max};
-ghost use Rattle.history_lock.specs.Turn.{Idle, Holds, starter, taking, looking, giving, bumping, missing, newcomer, informed, Stands, latest_of, Asked, AskedAfterMisses};
-ghost use Rattle.atomic_table.specs.Table.{rest};
+//! What callers hold, and what they can do.
+ghost use Rattle.std.specs.Prelude.{◌≡◌, ℕ, ◌≤◌, ◌+◌, ◌-◌, ◌^◌, [], min, max, IfOk, IfSome, IfNone, MatchResult};
+ghost use Rattle.kernel_provider.specs.Steps.{steps_of};
+ghost use Rattle.history_core.specs.Agreement.{IsMerge};
+ghost use Rattle.history_lock.specs.Turn.{IsNext};
+ghost use Rattle.history_lock.specs.Tokens.{Asking, Feeding, IsAnswered};
+ghost use Rattle.history_core.specs.declared.question.Asked.{Asked};
+ghost use Rattle.history_lock.specs.declared.answer.TryAnswer.TheVariants.{Answer, Busy};
 
-use crate::law::{Begin, Bump, Give, Law, Look, Pair, Planned, Take};
-use crate::tally::Tally;
-use crate::view::View;
-use atomic_table::{Refused, Seat, Table};
+use crate::answer::TryAnswer;
+use crate::rule::Planned;
+use crate::steps::{SharedHistory, Token};
 use crossbeam_utils::Backoff;
-use std::alloc::{AllocError, Global};
-use std::marker::Brand;
+use history_core::Asked;
+use ht_outside::{Gate, OpenGate};
+use kernel_provider::Step;
+use std::alloc::Global;
+use std::marker::{Brand, Model};
 use std::sync::Wait;
+use trace_types::{Merged, OutOfMemory, Path};
 
-pub type Token = Seat<Option<Tally>, View>;
-
+/// The right to ask. Contracts see the history that it belongs to, the steps of the merge, the
+/// counts at which it was answered, the greatest count that it knows, and its misses.
 #[derive(Drop)]
-pub struct SharedTally {
-    table: Table<Option<Tally>, View, (), Law, Global>,
-    ghost sized: { (table.shared.table_id.words ≡ 2) × (table.shared.table_id.slots ≡ 1) },
+pub struct Pass {
+    seat: Token,
+    seen: u64,
+    misses: u64,
 }
 
-impl SharedTally {
-    fn open_with<J: Planned>(
+impl Model for Pass {
+    ghost use Rattle.std.specs.Prelude.{◌≡◌, false};
+    ghost use Rattle.history_lock.specs.Turn.{Idle};
+    ghost use Rattle.history_lock.specs.Tokens.{Asking, asking_code};
+
+    ghost Value = { Asking };
+
+    ghost coded = { asking_code };
+
+    ghost view = { λ s. record { table = s.seat.table_id; plan = s.seat.me.0.plan; looks = s.seat.me.0.looks; seen = s.seen; misses = s.misses } };
+
+    ghost invariant = { λ s. Idle s.seat.me × (s.seat.me.0.builds ≡ false) × (s.seat.me.0.seen ≡ s.seen) × (s.seat.me.0.misses ≡ s.misses) };
+}
+
+/// The right to feed. Contracts see the history that it belongs to, the steps of the merge, how
+/// many of them were fed, and its misses.
+#[derive(Drop)]
+pub struct Builder {
+    seat: Token,
+    fed: u64,
+    misses: u64,
+}
+
+impl Model for Builder {
+    ghost use Rattle.std.specs.Prelude.{◌≡◌, true, []};
+    ghost use Rattle.history_lock.specs.Turn.{Idle, IsPlan};
+    ghost use Rattle.history_lock.specs.Tokens.{Feeding, feeding_code};
+
+    ghost Value = { Feeding };
+
+    ghost coded = { feeding_code };
+
+    ghost view = { λ s. record { table = s.seat.table_id; plan = s.seat.me.0.plan; fed = s.fed; misses = s.misses } };
+
+    ghost invariant = { λ s. Idle s.seat.me × (s.seat.me.0.builds ≡ true) × (s.seat.me.0.fed ≡ s.fed) × (s.seat.me.0.misses ≡ s.misses) × (s.seat.me.0.looks ≡ []) × IsPlan s.seat.me.0.plan };
+}
+
+impl Builder {
+    /// How many steps it has fed.
+    pub fn fed(&self) -> u64
+        ensures { result ≡ self.now.fed }
+    {
+        self.fed
+    }
+}
+
+impl Pass {
+    /// The greatest count of steps that the pass knows.
+    pub fn seen(&self) -> u64
+        ensures { result ≡ self.now.seen }
+    {
+        self.seen
+    }
+
+    /// How often the turn was out when the pass tried for it. It stays at `u64::MAX`.
+    pub fn misses(&self) -> u64
+        ensures { result ≡ self.now.misses }
+    {
+        self.misses
+    }
+}
+
+// A shared history of no step, its builder and a first pass, for this plan.
+fn open_with<J: Planned>(
+    alloc: Global,
+    events: &[Merged],
+) -> Result<(SharedHistory, Builder, Pass), OutOfMemory>
+    requires merge { IsMerge events.now }
+    requires plan { J.plan ≡ steps_of events.now }
+    ensures builder { IfOk result (λ r. r.1 ≡ record { table = r.0; plan = steps_of events.now; fed = 0; misses = 0 }) }
+    ensures pass { IfOk result (λ r. r.2 ≡ record { table = r.0; plan = steps_of events.now; looks = []; seen = 0; misses = 0 }) }
+{
+    let _few = events.len();
+    let (shared, mut seat) = SharedHistory::begin::<J>(alloc)?;
+    let pass = Pass {
+        seat: shared.split_seat(&mut seat),
+        seen: 0,
+        misses: 0,
+    };
+    let builder = Builder {
+        seat,
+        fed: 0,
+        misses: 0,
+    };
+    Ok((shared, builder, pass))
+}
+
+impl SharedHistory {
+    /// A shared history of no step, its builder and a first pass, for the steps of a merge. The
+    /// only error is lack of memory.
+    pub fn open(
         alloc: Global,
-        plan: &[u64],
-    ) -> Result<(SharedTally, Token), AllocError>
-        requires { J.plan ≡ plan.now }
-        ensures { IfOk result (λ r. (r.1.table_id ≡ r.0.table.shared.table_id) × (r.1.me ≡ (starter plan.now, []))) }
+        events: &[Merged],
+    ) -> Result<(SharedHistory, Builder, Pass), OutOfMemory>
+        requires merge { IsMerge events.now }
+        ensures builder { IfOk result (λ r. r.1 ≡ record { table = r.0; plan = steps_of events.now; fed = 0; misses = 0 }) }
+        ensures pass { IfOk result (λ r. r.2 ≡ record { table = r.0; plan = steps_of events.now; looks = []; seen = 0; misses = 0 }) }
     {
-        let _short = plan.len();
-        let mut slots = Vec::with_capacity(alloc, 1)?;
-        slots.push_reserved(Some(Tally {
-            count: 0,
-            latest: 0,
-        }));
-        match Table::new(alloc, &[0, 0], slots, &()) {
-            Ok((table, mut seat)) => {
-                table.shared.load::<Begin<J>>(&mut seat, 0);
-                Ok((SharedTally { table }, seat))
-            }
-            Err(Refused { slots: _ }) => Err(AllocError),
-        }
+        open_with::<Brand>(alloc, events)
     }
 
-    pub fn open(alloc: Global, plan: &[u64]) -> Result<(SharedTally, Token), AllocError>
-        ensures { IfOk result (λ r. (r.1.table_id ≡ r.0.table.shared.table_id) × (r.1.me ≡ (starter plan.now, []))) }
+    // One try to feed.
+    fn try_feed<G: Gate>(
+        &self,
+        builder: &mut Builder,
+        step: &Step,
+        gate: &G,
+    ) -> Option<Result<(), OutOfMemory>>
+        requires own { builder.old.table ≡ self.now }
+        requires step { IsNext builder.old.plan builder.old.fed step.now }
+        ensures fed { IfSome result (λ r. MatchResult r (λ _. builder.new ≡ record builder.old { fed = builder.old.fed + 1 }) (λ _. builder.new ≡ builder.old)) }
+        ensures missed { IfNone result (builder.new ≡ record builder.old { misses = min (builder.old.misses + 1) (2 ^ 64 - 1) }) }
+        ensures rises { builder.old.misses ≤ builder.new.misses }
     {
-        SharedTally::open_with::<Brand>(alloc, plan)
-    }
-
-    /// One try for the turn.
-    fn take(&self, seat: &mut Token) -> Option<Tally>
-        requires own { seat.old.table_id ≡ self.now.table.shared.table_id }
-        requires idle { Idle seat.old.me }
-        ensures own { seat.new.table_id ≡ seat.old.table_id }
-        ensures taken { IfSome result (λ t. (held : ℕ) × (seat.new.me ≡ (taking seat.old.me.0 held, (0, None) ∷ [])) × Stands seat.old.me.0.plan held t × (seat.old.me.0.seen ≤ held) × (seat.old.me.0.builds ≡ true → seat.old.me.0.fed ≡ held)) }
-        ensures missed { IfNone result (seat.new.me ≡ (missing seat.old.me.0, [])) }
-    {
-        let found = self.table.shared.compare_exchange::<Take>(seat, 1, 0, 1);
-        if found != 0 {
+        let Some(fed) = self.feed_once(&mut builder.seat, step, gate) else {
+            builder.misses = builder.misses.saturating_add(1);
             return None;
-        }
-        let tally = self.table.shared.exchange(seat, 0, None).unwrap();
-        Some(tally)
-    }
-
-    /// The count, read with the turn held.
-    fn look(&self, seat: &mut Token) -> u64
-        requires own { seat.old.table_id ≡ self.now.table.shared.table_id }
-        requires turn { (seat.old.me.0.live ≡ true) × (seat.old.me.0.turn ≡ true) }
-        ensures own { seat.new.table_id ≡ seat.old.table_id }
-        ensures look { (result ≡ seat.old.me.0.held) × (seat.new.me ≡ (looking seat.old.me.0, seat.old.me.1)) }
-    {
-        self.table.shared.load::<Look>(seat, 0)
-    }
-
-    fn bump(&self, seat: &mut Token)
-        requires own { seat.old.table_id ≡ self.now.table.shared.table_id }
-        requires turn { (seat.old.me.0.live ≡ true) × (seat.old.me.0.turn ≡ true) × (seat.old.me.0.loaded ≡ false) }
-        requires builder { (seat.old.me.0.builds ≡ true) × (seat.old.me.0.fed < length seat.old.me.0.plan) }
-        ensures own { seat.new.table_id ≡ seat.old.table_id }
-        ensures bump { seat.new.me ≡ (bumping seat.old.me.0, seat.old.me.1) }
-    {
-        self.table.shared.fetch_add::<Bump>(seat, 0, 1);
-    }
-
-    fn give(&self, seat: &mut Token, tally: Tally)
-        requires own { seat.old.table_id ≡ self.now.table.shared.table_id }
-        requires turn { (seat.old.me.1 ≡ (0, None) ∷ []) × (seat.old.me.0.live ≡ true) × (seat.old.me.0.turn ≡ true) × Stands seat.old.me.0.plan seat.old.me.0.held tally }
-        ensures own { seat.new.table_id ≡ seat.old.table_id }
-        ensures give { seat.new.me ≡ (giving seat.old.me.0, []) }
-    {
-        let _ = self.table.shared.exchange(seat, 0, Some(tally));
-        self.table.shared.store::<Give>(seat, 1, 0);
-    }
-
-    /// Asks once, and waits for nobody. An answer is that of the first steps of the plan, by the count that is the newest look.
-    pub fn try_ask(&self, seat: &mut Token) -> Option<(u64, u64)>
-        requires own { seat.old.table_id ≡ self.now.table.shared.table_id }
-        requires idle { Idle seat.old.me }
-        ensures own { seat.new.table_id ≡ seat.old.table_id }
-        ensures answer { IfSome result (λ a. Asked seat.old.me seat.new.me a.0 a.1) }
-        ensures busy { IfNone result (seat.new.me ≡ (missing seat.old.me.0, [])) }
-    {
-        let tally = self.take(seat)?;
-        let count = self.look(seat);
-        let latest = tally.latest;
-        self.give(seat, tally);
-        Some((count, latest))
-    }
-
-    /// Asks, and waits for the turn.
-    pub fn ask<R: Wait>(&self, rt: &R, seat: &mut Token) -> (u64, u64)
-        requires own { seat.old.table_id ≡ self.now.table.shared.table_id }
-        requires idle { Idle seat.old.me }
-        ensures own { seat.new.table_id ≡ seat.old.table_id }
-        ensures answer { AskedAfterMisses seat.old.me seat.new.me result.0 result.1 }
-    {
-        let backoff = Backoff::new();
-        for _ in rt.forever() {
-            if let Some(answer) = self.try_ask(seat) {
-                return answer;
-            }
-            backoff.snooze();
-        }
-        unreachable!()
-    }
-
-    /// Applies the next step of the plan, and waits for the turn.
-    pub fn try_feed(&self, seat: &mut Token, step: u64) -> bool
-        requires own { seat.old.table_id ≡ self.now.table.shared.table_id }
-        requires idle { Idle seat.old.me }
-        requires step { (seat.old.me.0.builds ≡ true) × (seat.old.me.0.fed < length seat.old.me.0.plan) × (step ≡ slice_index seat.old.me.0.plan seat.old.me.0.fed) }
-        requires room { seat.old.me.0.fed + 1 < 2 ^ 64 }
-        ensures own { seat.new.table_id ≡ seat.old.table_id }
-        ensures fed { MatchBool result (Idle seat.new.me × (seat.new.me.0.fed ≡ seat.old.me.0.fed + 1) × (seat.new.me.0.plan ≡ seat.old.me.0.plan) × (seat.new.me.0.builds ≡ true)) (seat.new.me ≡ (missing seat.old.me.0, [])) }
-    {
-        let Some(mut tally) = self.take(seat) else {
-            return false;
         };
-        tally.count += 1;
-        tally.latest = step;
-        self.bump(seat);
-        self.give(seat, tally);
-        true
+        if fed.is_ok() {
+            builder.fed += 1;
+        }
+        Some(fed)
     }
 
-    /// Applies the next step of the plan, and waits for the turn.
-    pub fn feed<R: Wait>(&self, rt: &R, seat: &mut Token, step: u64)
-        requires own { seat.old.table_id ≡ self.now.table.shared.table_id }
-        requires idle { Idle seat.old.me }
-        requires step { (seat.old.me.0.builds ≡ true) × (seat.old.me.0.fed < length seat.old.me.0.plan) × (step ≡ slice_index seat.old.me.0.plan seat.old.me.0.fed) }
-        requires room { seat.old.me.0.fed + 1 < 2 ^ 64 }
-        ensures own { seat.new.table_id ≡ seat.old.table_id }
-        ensures fed { Idle seat.new.me × (seat.new.me.0.fed ≡ seat.old.me.0.fed + 1) × (seat.new.me.0.plan ≡ seat.old.me.0.plan) × (seat.new.me.0.builds ≡ true) }
+    /// Waits for the turn, and takes the plan's step whose number is `builder.fed()`. The only
+    /// error is lack of memory, after which the history is as before and the same step can be fed
+    /// again.
+    pub fn feed<R: Wait, G: Gate>(
+        &self,
+        rt: &R,
+        builder: &mut Builder,
+        step: Step,
+        gate: &G,
+    ) -> Result<(), OutOfMemory>
+        requires own { builder.old.table ≡ self.now }
+        requires step { IsNext builder.old.plan builder.old.fed step }
+        ensures kept { (builder.new.table ≡ builder.old.table) × (builder.new.plan ≡ builder.old.plan) }
+        ensures fed { MatchResult result (λ _. builder.new.fed ≡ builder.old.fed + 1) (λ _. builder.new.fed ≡ builder.old.fed) }
+        ensures misses { builder.old.misses ≤ builder.new.misses }
     {
         let backoff = Backoff::new();
         for _ in rt.forever() {
-            if self.try_feed(seat, step) {
-                return;
+            if let Some(fed) = self.try_feed(builder, &step, gate) {
+                return fed;
             }
             backoff.snooze();
         }
         unreachable!()
     }
 
-    /// A pass that knows as much.
-    pub fn split(&self, seat: &mut Token) -> Token
-        requires own { seat.old.table_id ≡ self.now.table.shared.table_id }
-        requires live { seat.old.me.0.live ≡ true }
-        ensures kept { (seat.new.table_id ≡ seat.old.table_id) × (seat.new.me ≡ seat.old.me) }
-        ensures given { (result.table_id ≡ seat.old.table_id) × (result.me ≡ (newcomer seat.old.me.0, [])) }
+    // One try to ask.
+    fn try_answer<G: Gate>(
+        &self,
+        pass: &mut Pass,
+        t: u64,
+        path: Path,
+        gate: &G,
+    ) -> Option<Asked>
+        requires own { pass.old.table ≡ self.now }
+        ensures answered { IfSome result (λ asked. IsAnswered pass.old pass.new t path asked × (pass.new.misses ≡ pass.old.misses)) }
+        ensures missed { IfNone result (pass.new ≡ record pass.old { misses = min (pass.old.misses + 1) (2 ^ 64 - 1) }) }
+        ensures rises { pass.old.misses ≤ pass.new.misses }
     {
-        self.table.shared.split_seat::<Pair>(seat)
+        let Some(asked) = self.answer_once(&mut pass.seat, t, path, gate) else {
+            pass.misses = pass.misses.saturating_add(1);
+            return None;
+        };
+        pass.seen = asked.count;
+        Some(asked)
     }
 
-    /// Takes in what another pass knows.
-    pub fn join(&self, seat: &mut Token, other: Token)
-        requires own { (seat.old.table_id ≡ self.now.table.shared.table_id) × (other.table_id ≡ self.now.table.shared.table_id) }
-        requires live { (seat.old.me.0.live ≡ true) × Idle other.me }
-        ensures kept { (seat.new.table_id ≡ seat.old.table_id) × (seat.new.me ≡ (informed seat.old.me.0 other.me.0, seat.old.me.1)) }
+    /// Waits for the turn, and answers at the count of steps that were fed by then. It takes no
+    /// memory.
+    pub fn ask<R: Wait, G: Gate>(
+        &self,
+        rt: &R,
+        pass: &mut Pass,
+        t: u64,
+        path: Path,
+        gate: &G,
+    ) -> Asked
+        requires own { pass.old.table ≡ self.now }
+        ensures answered { IsAnswered pass.old pass.new t path result }
+        ensures misses { pass.old.misses ≤ pass.new.misses }
     {
-        self.table.shared.join_seat::<Pair>(seat, other);
+        let backoff = Backoff::new();
+        for _ in rt.forever() {
+            if let Some(asked) = self.try_answer(pass, t, path, gate) {
+                return asked;
+            }
+            backoff.snooze();
+        }
+        unreachable!()
+    }
+
+    /// Answers as `ask` does if the turn is free, and waits for nobody.
+    pub fn try_ask(&self, pass: &mut Pass, t: u64, path: Path) -> TryAnswer
+        requires own { pass.old.table ≡ self.now }
+        ensures answered { (asked : Asked) → result ≡ Answer asked → IsAnswered pass.old pass.new t path asked × (pass.new.misses ≡ pass.old.misses) }
+        ensures busy { (misses : ℕ) → result ≡ Busy misses → (pass.new ≡ record pass.old { misses = min (pass.old.misses + 1) (2 ^ 64 - 1) }) × (misses ≡ pass.new.misses) }
+    {
+        match self.try_answer(pass, t, path, &OpenGate) {
+            Some(asked) => TryAnswer::Answer(asked),
+            None => TryAnswer::Busy {
+                misses: pass.misses,
+            },
+        }
+    }
+
+    /// A pass that has seen as much, with no misses.
+    pub fn split(&self, pass: &mut Pass) -> Pass
+        requires own { pass.old.table ≡ self.now }
+        ensures kept { pass.new ≡ pass.old }
+        ensures given { result ≡ record pass.old { looks = []; misses = 0 } }
+    {
+        Pass {
+            seat: self.split_seat(&mut pass.seat),
+            seen: pass.seen,
+            misses: 0,
+        }
+    }
+
+    /// Takes in another pass. The first then knows the greater of the two counts.
+    pub fn join(&self, pass: &mut Pass, other: Pass)
+        requires own { (pass.old.table ≡ self.now) × (other.table ≡ self.now) }
+        ensures joined { pass.new ≡ record pass.old { seen = max pass.old.seen other.seen } }
+    {
+        let Pass {
+            seat,
+            seen,
+            misses: _,
+        } = other;
+        self.join_seat(&mut pass.seat, seat);
+        pass.seen = pass.seen.max(seen);
+    }
+
+    /// The pass of a builder that feeds no more. It knows all that was fed.
+    pub fn done(&self, builder: Builder) -> Pass
+        requires own { builder.table ≡ self.now }
+        ensures pass { result ≡ record { table = builder.table; plan = builder.plan; looks = []; seen = builder.fed; misses = builder.misses } }
+    {
+        let Builder {
+            mut seat,
+            fed: _,
+            misses,
+        } = builder;
+        let seen = self.finish(&mut seat);
+        Pass { seat, seen, misses }
     }
 }

@@ -1,4 +1,0 @@
-use Rattle.history_lock.proofs.shared.SharedTally.open.Given as goal
-
-abbrev pub ghosts-open_with : goal.ghosts-open_with
-ghosts-open_with a = record { plan = a.plan.now }

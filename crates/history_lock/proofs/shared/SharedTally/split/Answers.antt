@@ -1,6 +1,0 @@
-use Rattle.std.proofs.Common.{rules}
-use Rattle.history_lock.proofs.Moves.{splits_pass}
-use Rattle.history_lock.proofs.shared.SharedTally.split.Goals as goal
-
-pub split_seat-requires : goal.split_seat-requires
-split_seat-requires c = (search rules, search rules, splits_pass _ _ c.requires.live)
