@@ -1,5 +1,5 @@
 -- What a step changes of the rule's parts.
-use Rattle.std.proofs.Common.{◌≡◌, ◌≢◌, ℕ, zero, suc, ◌+◌, ◌≤◌, Bool, true, false, List, [], ◌∷◌, ◌++◌, set, Option, Some, None, ◌⊎◌, ⊎_elim, sym, refl, ap, ◌∙◌, subst, le_trans, le_of_eq, true≢false, arith}
+use Rattle.std.proofs.Common.{◌≡◌, ◌≢◌, ℕ, zero, suc, ◌+◌, ◌≤◌, true, List, [], ◌∷◌, ◌++◌, set, Option, ⊎_elim, sym, ap, ◌∙◌, subst, le_trans, le_of_eq, true≢false, arith}
 use mathlib.Core.Option.{none, some, some-injective}
 use lib.ListN.{get_elem?}
 use Rattle.atomic_table.proofs.Lists.{at_set}

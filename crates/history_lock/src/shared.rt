@@ -179,13 +179,7 @@ impl SharedHistory {
     }
 
     // One try to ask.
-    fn try_answer<G: Gate>(
-        &self,
-        pass: &mut Pass,
-        t: u64,
-        path: Path,
-        gate: &G,
-    ) -> Option<Asked>
+    fn try_answer<G: Gate>(&self, pass: &mut Pass, t: u64, path: Path, gate: &G) -> Option<Asked>
         requires own { pass.old.table ≡ self.now }
         ensures answered { IfSome result (λ asked. IsAnswered pass.old pass.new t path asked × (pass.new.misses ≡ pass.old.misses)) }
         ensures missed { IfNone result (pass.new ≡ record pass.old { misses = min (pass.old.misses + 1) (2 ^ 64 - 1) }) }

@@ -18,7 +18,9 @@ pub type Token = Seat<Option<History>, View>;
 
 // The word of the count of steps, the word of the turn, and the slot of the history.
 const COUNT: usize = 0;
+
 const TURN: usize = 1;
+
 const HISTORY: usize = 0;
 
 /// A history that threads share. Contracts see which table it is.

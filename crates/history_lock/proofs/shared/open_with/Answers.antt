@@ -1,5 +1,4 @@
-use Rattle.std.proofs.Common.{◌≡◌, ◌+◌, ◌*◌, ◌<◌, ◌^◌, length, rules, sym, subst}
-use Rattle.kernel_provider.specs.Steps.{steps_of}
+use Rattle.std.proofs.Common.{◌+◌, ◌*◌, ◌<◌, ◌^◌, length, rules, sym, subst}
 use Rattle.history_lock.specs.Turn.{IsPlan}
 use Rattle.history_lock.proofs.Plans.{merge_plan}
 use Rattle.history_lock.proofs.shared.open_with.Goals as goal
