@@ -2,12 +2,14 @@
 #![tactic(auto)]
 
 mod closed;
+mod growth;
 mod history;
 mod laws;
 mod opened;
 mod question;
 mod whole;
 
+pub use growth::built_ends_rise;
 pub use history::History;
 pub use laws::answers_agree;
 pub use question::{Answer, Asked, Question};

@@ -1,5 +1,6 @@
 -- The next step of a plan can follow where a history stands for those before it.
 use Rattle.std.proofs.Common.{◌≡◌, ℕ, ◌+◌, ◌-◌, ◌*◌, ◌<◌, ◌^◌, List, [], ◌∷◌, ◌++◌, length, take, refl, sym, ap, ◌∙◌, subst, arith, length-append, append_assoc}
+use Rattle.std.proofs.Math.Seq.{take-append_seam}
 use Rattle.trace_types.specs.declared.event.Merged.{Merged}
 use Rattle.kernel_provider.specs.declared.step.Step.{Step}
 use Rattle.kernel_provider.specs.Steps.{steps_of}
@@ -11,20 +12,15 @@ use Rattle.history_core.proofs.Lawful.{steps_lawful}
 use Rattle.history_core.proofs.Pushed.{steps_rest}
 use Rattle.history_lock.specs.Turn.{IsPlan, IsNext}
 
-take_front : (xs ys : List Step) → take (length xs) (xs ++ ys) ≡ xs
-take_front [] [] = refl
-take_front [] (y ∷ ys) = refl
-take_front (x ∷ xs) ys = ap (λ l. x ∷ l) (take_front xs ys)
-
 -- the steps before the next one, and with it
 pub front_is : (plan : List Step) (number : ℕ) (step : Step) (next : IsNext plan number step) → take number plan ≡ next.0
-front_is plan number step next = subst (λ n. take n plan ≡ next.0) next.3 (subst (λ l. take (length next.0) l ≡ next.0) (sym next.2) (take_front next.0 (step ∷ next.1)))
+front_is plan number step next = subst (λ n. take n plan ≡ next.0) next.3 (subst (λ l. take (length next.0) l ≡ next.0) (sym next.2) (take-append_seam next.0 (step ∷ next.1)))
 
 pub front_grows : (plan : List Step) (number : ℕ) (step : Step) (next : IsNext plan number step) → take (number + 1) plan ≡ next.0 ++ step ∷ []
 front_grows plan number step next =
     let all : plan ≡ (next.0 ++ step ∷ []) ++ next.1 = next.2 ∙ sym (append_assoc next.0 (step ∷ []) next.1) in
     let long : length (next.0 ++ step ∷ []) ≡ number + 1 = omega (arith, length-append next.0 (step ∷ []), next.3) in
-    subst (λ n. take n plan ≡ next.0 ++ step ∷ []) long (subst (λ l. take (length (next.0 ++ step ∷ [])) l ≡ next.0 ++ step ∷ []) (sym all) (take_front (next.0 ++ step ∷ []) next.1))
+    subst (λ n. take n plan ≡ next.0 ++ step ∷ []) long (subst (λ l. take (length (next.0 ++ step ∷ [])) l ≡ next.0 ++ step ∷ []) (sym all) (take-append_seam (next.0 ++ step ∷ []) next.1))
 
 pub next_within : (plan : List Step) (number : ℕ) (step : Step) → IsNext plan number step → number < length plan
 next_within plan number step next = omega (arith, ap length next.2, length-append next.0 (step ∷ next.1), next.3)
