@@ -201,7 +201,7 @@ fn asked<R: Threads + Wait + Sync>(
 
 #[test]
 fn forty_thousand_questions_beside_a_builder(rt: HostRuntime) -> Result<(), Fail> {
-    let (outcome, steps, turns) = asked(&rt, rt.alloc(), 30_000, 10_000)?;
+    let (outcome, steps, turns) = asked(&rt, rt.alloc(), 60_000, 10_000)?;
     assert!(rt; steps > 100_000);
     assert_eq!(rt; outcome.answers, 40_000);
     assert_eq!(rt; outcome.alike, 40_000);
