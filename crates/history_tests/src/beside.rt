@@ -90,7 +90,15 @@ fn build<R: Wait>(
     requires own { builder.table ≡ shared.now }
     requires at { IsAt events.now builder provider }
 {
-    feed_some(rt, shared, &mut builder, &mut provider, events, u32::MAX, gate)?;
+    feed_some(
+        rt,
+        shared,
+        &mut builder,
+        &mut provider,
+        events,
+        u32::MAX,
+        gate,
+    )?;
     Ok(shared.done(builder))
 }
 

@@ -80,7 +80,9 @@ impl Replay {
 
     // The built end after so many steps.
     fn built_after(&self, count: u64) -> u64 {
-        let before = self.built.partition_point(|built: &Built| -> bool { built.step < count });
+        let before = self
+            .built
+            .partition_point(|built: &Built| -> bool { built.step < count });
         match before.checked_sub(1) {
             Some(last) => self.built.get(last).map_or(0, |built| built.t),
             None => 0,

@@ -28,11 +28,35 @@ fn two_switches<R: Wait>(rt: &R, alloc: Global) -> Result<([Asked; 3], u64), Out
     let mut provider = Provider::new(alloc);
     let (shared, mut builder, mut first) = SharedHistory::open(alloc, &events)?;
     let mut pass = shared.split(&mut first);
-    feed_some(rt, &shared, &mut builder, &mut provider, &events, 17, &OpenGate)?;
+    feed_some(
+        rt,
+        &shared,
+        &mut builder,
+        &mut provider,
+        &events,
+        17,
+        &OpenGate,
+    )?;
     let early = shared.ask(rt, &mut pass, 100, CPU_0, &OpenGate);
-    feed_some(rt, &shared, &mut builder, &mut provider, &events, 1, &OpenGate)?;
+    feed_some(
+        rt,
+        &shared,
+        &mut builder,
+        &mut provider,
+        &events,
+        1,
+        &OpenGate,
+    )?;
     let later = shared.ask(rt, &mut pass, 100, CPU_0, &OpenGate);
-    feed_some(rt, &shared, &mut builder, &mut provider, &events, 6, &OpenGate)?;
+    feed_some(
+        rt,
+        &shared,
+        &mut builder,
+        &mut provider,
+        &events,
+        6,
+        &OpenGate,
+    )?;
     let done = shared.done(builder);
     shared.join(&mut pass, done);
     let seen = pass.seen();
@@ -43,9 +67,27 @@ fn two_switches<R: Wait>(rt: &R, alloc: Global) -> Result<([Asked; 3], u64), Out
 #[test]
 fn answers_come_at_their_counts(rt: HostRuntime) -> Result<(), Fail> {
     let (told, seen) = two_switches(&rt, rt.alloc())?;
-    assert!(rt; told[0] == Asked { answer: Answer::NotYet { built: 100 }, count: 17 });
-    assert!(rt; told[1] == Asked { answer: Answer::State(Value::Int(7)), count: 18 });
-    assert!(rt; told[2] == Asked { answer: Answer::State(Value::Int(0)), count: 24 });
+    assert!(rt;
+        told[0]
+            == Asked {
+                answer: Answer::NotYet { built: 100 },
+                count: 17
+            }
+    );
+    assert!(rt;
+        told[1]
+            == Asked {
+                answer: Answer::State(Value::Int(7)),
+                count: 18
+            }
+    );
+    assert!(rt;
+        told[2]
+            == Asked {
+                answer: Answer::State(Value::Int(0)),
+                count: 24
+            }
+    );
     assert_eq!(rt; seen, 24);
     Ok(())
 }
@@ -60,10 +102,26 @@ fn one_instant<R: Wait>(rt: &R, alloc: Global) -> Result<[Answer; 4], OutOfMemor
     ];
     let mut provider = Provider::new(alloc);
     let (shared, mut builder, mut pass) = SharedHistory::open(alloc, &events)?;
-    feed_some(rt, &shared, &mut builder, &mut provider, &events, 17, &OpenGate)?;
+    feed_some(
+        rt,
+        &shared,
+        &mut builder,
+        &mut provider,
+        &events,
+        17,
+        &OpenGate,
+    )?;
     let at = shared.ask(rt, &mut pass, 100, CPU_0, &OpenGate);
     let before = shared.ask(rt, &mut pass, 99, CPU_0, &OpenGate);
-    feed_some(rt, &shared, &mut builder, &mut provider, &events, 11, &OpenGate)?;
+    feed_some(
+        rt,
+        &shared,
+        &mut builder,
+        &mut provider,
+        &events,
+        11,
+        &OpenGate,
+    )?;
     let then = shared.ask(rt, &mut pass, 100, CPU_0, &OpenGate);
     let later = shared.ask(rt, &mut pass, 250, CPU_0, &OpenGate);
     Ok([at.answer, before.answer, then.answer, later.answer])
@@ -134,6 +192,11 @@ fn busy_and_free<R: Threads + Wait + Sync>(
 fn a_try_waits_for_nobody(rt: HostRuntime) -> Result<(), Fail> {
     let (busy, free) = busy_and_free(&rt, rt.alloc())?;
     assert!(rt; busy == TryAnswer::Busy { misses: 1 });
-    assert!(rt; free == TryAnswer::Answer(Asked { answer: Answer::NotYet { built: 100 }, count: 1 }));
+    assert!(rt;
+        free == TryAnswer::Answer(Asked {
+            answer: Answer::NotYet { built: 100 },
+            count: 1
+        })
+    );
     Ok(())
 }
