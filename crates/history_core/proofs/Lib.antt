@@ -8,3 +8,4 @@ pub mod Answering
 pub mod Lawful
 pub mod Numbers
 pub mod Agreement
+pub mod Ends

@@ -6,3 +6,4 @@ pub mod Intervals
 pub mod Stands
 pub mod Codes
 pub mod Agreement
+pub mod Growth

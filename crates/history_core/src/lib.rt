@@ -2,6 +2,7 @@
 #![tactic(auto)]
 
 mod closed;
+mod growth;
 mod history;
 mod laws;
 mod opened;
@@ -9,6 +10,7 @@ mod question;
 mod whole;
 
 pub use closed::Since;
+pub use growth::built_ends_rise;
 pub use history::History;
 pub use laws::answers_agree;
 pub use question::{Answer, Asked, Question};

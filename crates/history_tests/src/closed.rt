@@ -8,8 +8,8 @@ use std::alloc::Global;
 use std::test::Fail;
 use trace_types::{Comm, Event, KernelEvent, Merged, OutOfMemory, TIME_END, Value};
 
-// A switch on processor 0 of host 0.
-fn switch(key: u64, prev_tid: u32, prev_state: i64, next_tid: u32) -> Merged
+/// A switch on processor 0 of host 0.
+pub fn switch(key: u64, prev_tid: u32, prev_state: i64, next_tid: u32) -> Merged
     ensures { result.key ≡ key }
 {
     Merged {

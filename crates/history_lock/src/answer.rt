@@ -1,0 +1,12 @@
+//! What comes of one try.
+
+use history_core::Asked;
+
+/// What `SharedHistory::try_ask` gives.
+#[derive(Clone, Copy, Debug, PartialEq, Eq)]
+pub enum TryAnswer {
+    /// An answer, with the count of steps at which it was given.
+    Answer(Asked),
+    /// Another had the turn. These are the pass's misses so far, which stay at `u64::MAX`.
+    Busy { misses: u64 },
+}
