@@ -172,7 +172,9 @@ fn busy_and_free<R: Threads + Wait + Sync>(
     let events = events.as_slice();
     let provider = Provider::new(alloc);
     let (shared, builder, pass) = SharedHistory::open(alloc, events)?;
-    let (shared, gate) = (&shared, &HoldsTheTurn::new());
+    let gate = HoldsTheTurn::new();
+    let shared = &shared;
+    let gate = &gate;
     let (fed, (busy, mut pass)) = thread::join(
         rt,
         || -> Result<(), OutOfMemory>
