@@ -1,7 +1,8 @@
 -- What contracts see of those who feed and ask.
+pub use Rattle.atomic_table.specs.Seated.{TableId}
 use Rattle.std.specs.Prelude.{◌≡◌, ◌≤◌, ℕ, List, [], ◌∷◌, ◌++◌, take, refl}
 use Rattle.std.specs.Coded.{Coded, code_by, coded×, coded_ℕ, coded_list}
-use Rattle.atomic_table.specs.Seated.{TableId, table_id_coded}
+use Rattle.atomic_table.specs.Seated.{table_id_coded}
 use Rattle.trace_types.specs.declared.path.Path.{Path as AttributePath}
 use Rattle.kernel_provider.specs.declared.step.Step.{Step}
 use Rattle.kernel_provider.specs.contracts.step.Step as step

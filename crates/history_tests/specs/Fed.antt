@@ -1,10 +1,9 @@
 -- Where a builder and the provider of its steps stand, and what threads ask.
 use Rattle.std.specs.Prelude.{◌≡◌, ◌<◌, List, ◌++◌, length}
-use Rattle.atomic_table.specs.Seated.{TableId}
 use Rattle.trace_types.specs.declared.event.Merged.{Merged}
 use Rattle.kernel_provider.specs.declared.step.Step.{Step}
 use Rattle.kernel_provider.specs.Given.{Given, left}
-use Rattle.history_lock.specs.Tokens.{Feeding}
+use Rattle.history_lock.specs.Tokens.{TableId, Feeding}
 use Rattle.history_tests.specs.declared.beside.Job.{Job}
 
 -- what was fed, and what the provider has still to give, is the plan

@@ -1,5 +1,6 @@
 //! A shared history that is fed and asked in turns.
 ghost use Rattle.std.specs.Prelude.{◌≡◌};
+ghost use Rattle.history_core.specs.Agreement.{IsMerge};
 ghost use Rattle.history_tests.specs.Fed.{IsAt};
 
 use crate::closed::switch;
@@ -167,12 +168,14 @@ fn try_then(shared: &SharedHistory, mut pass: Pass, gate: &HoldsTheTurn) -> (Try
 fn busy_and_free<R: Threads + Wait + Sync>(
     rt: &R,
     alloc: Global,
-) -> Result<(TryAnswer, TryAnswer), OutOfMemory> {
-    let events = [switch(100, 0, 0, 7)];
-    let events = events.as_slice();
+    events: &[Merged],
+    gate: &HoldsTheTurn,
+) -> Result<(TryAnswer, TryAnswer), OutOfMemory>
+    requires merge { IsMerge events.now }
+{
     let provider = Provider::new(alloc);
     let (shared, builder, pass) = SharedHistory::open(alloc, events)?;
-    let (shared, gate) = (&shared, &HoldsTheTurn::new());
+    let shared = &shared;
     let (fed, (busy, mut pass)) = thread::join(
         rt,
         || -> Result<(), OutOfMemory>
@@ -190,7 +193,9 @@ fn busy_and_free<R: Threads + Wait + Sync>(
 
 #[test]
 fn a_try_waits_for_nobody(rt: HostRuntime) -> Result<(), Fail> {
-    let (busy, free) = busy_and_free(&rt, rt.alloc())?;
+    let events = [switch(100, 0, 0, 7)];
+    let gate = HoldsTheTurn::new();
+    let (busy, free) = busy_and_free(&rt, rt.alloc(), &events, &gate)?;
     assert!(rt; busy == TryAnswer::Busy { misses: 1 });
     assert!(rt;
         free == TryAnswer::Answer(Asked {
