@@ -29,6 +29,6 @@ pub fn text_of_disks<S: Store>(
     let trace = read_input(threads, alloc, input, store)?;
     let table = requests(alloc, &trace.events)?;
     let mut text = Vec::new(alloc);
-    disks_text(&table, &mut text)?;
+    disks_text(alloc, &table, &mut text)?;
     Ok(text)
 }

@@ -1,20 +1,31 @@
 //! The text of the requests of disks.
-ghost use Rattle.std.specs.Prelude.{◌≡◌, ◌++◌, OnOk};
+ghost use Rattle.std.specs.Prelude.{◌≡◌, ◌++◌, IfOk, OnErr, OnOk};
 ghost use Rattle.report_views.specs.DisksText.{bounds_text, device_lines, disks_text, latency_lines, latency_told, sums_text};
 
 use disk_requests::{Device, DiskTable};
+use std::alloc::Global;
 use std::io::Write;
 use trace_types::OutOfMemory;
 
 /// Appends the lines of each device, in their order: what its requests come to, and how many of them
-/// had a latency of so many binary digits. The only error is lack of memory.
-pub fn disks_text(table: &DiskTable, out: &mut Vec<u8>) -> Result<(), OutOfMemory>
-    ensures { OnOk result (out.new.items ≡ out.old.items ++ disks_text table.now.devices.items) }
+/// had a latency of so many binary digits. The only error is lack of memory, after which nothing has
+/// changed.
+pub fn disks_text(alloc: Global, table: &DiskTable, out: &mut Vec<u8>) -> Result<(), OutOfMemory>
+    ensures text { OnOk result (out.new.items ≡ out.old.items ++ disks_text table.now.devices.items) }
+    ensures err { OnErr result (out.new.items ≡ out.old.items) }
 {
-    for device in &table.devices {
-        write_device(device, out)?;
-    }
+    out.append(&mut disk_lines(alloc, table)?)?;
     Ok(())
+}
+
+fn disk_lines(alloc: Global, table: &DiskTable) -> Result<Vec<u8>, OutOfMemory>
+    ensures { IfOk result (λ text. text.items ≡ disks_text table.now.devices.items) }
+{
+    let mut text = Vec::new(alloc);
+    for device in &table.devices {
+        write_device(device, &mut text)?;
+    }
+    Ok(text)
 }
 
 fn write_device(device: &Device, out: &mut Vec<u8>) -> Result<(), OutOfMemory>
