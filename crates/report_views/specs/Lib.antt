@@ -12,3 +12,4 @@ pub mod LongNames
 pub mod Ordered
 pub mod TimeLines
 pub mod CallLines
+pub mod CheckText

@@ -5,6 +5,7 @@ mod answers;
 mod call_lines;
 mod call_name;
 mod cause_word;
+mod check;
 mod clock_lines;
 mod events;
 mod host_report;
@@ -19,6 +20,7 @@ mod time_lines;
 mod value_text;
 
 pub use answers::answers_text;
+pub use check::check_text;
 pub use events::{BATCH_LENGTH, NAMES_SIZE, batch_length, batch_texts, events_head};
 pub use host_report::report;
 pub use long_names::{LONG_NAME, long_word, spelled_names};
