@@ -1,8 +1,9 @@
 -- What is left of folders and of hosts, after those that were read.
-use Rattle.std.proofs.Common.{◌≡◌, inl, inr, ◌∙◌, ℕ, ◌+◌, List, [], ◌∷◌, ◌++◌, length, map, drop, Option, Some, None, refl, sym, ap, subst, append_assoc, append-nil}
+use Rattle.std.proofs.Common.{◌≡◌, inl, inr, ◌∙◌, ℕ, suc, ◌+◌, List, [], ◌∷◌, ◌++◌, length, map, drop, Option, Some, None, refl, sym, ap, subst, append_assoc, append-nil}
 use Rattle.std.specs.Prelude.{IfSome}
 use Rattle.ht_outside.specs.Files.{Files}
-use Rattle.type_scope.specs.Traces.{Trace}
+use Rattle.type_scope.specs.Traces.{Trace, trace}
+use Rattle.type_table.specs.TraceMetas.{TraceMetaModel}
 use Rattle.trace_metadata.specs.Files.{IsTrace}
 use Rattle.hosttrace.specs.Folders.{AreRead, IsRead, metadata_of}
 use Rattle.hosttrace.specs.Hosts.{AreTraces}
@@ -31,6 +32,13 @@ no_host files at ts left none = subst (AreTraces files) (append-nil ts) (left.go
 
 pub bad_host : (files : List (List ℕ)) (at : ℕ) (ts : List Trace) (bytes : List ℕ) (r : Refusal) → HostsLeft files at ts → drop at files ≡ bytes ∷ drop (at + 1) files → MetadataRefuses at bytes r → HostsRefuse 0 files r
 bad_host files at ts bytes r left here bad = left.only r (subst (λ l. HostsRefuse at l r) (sym here) (inl bad))
+
+-- as many as there are files
+pub as_many_metas : (files : List (List ℕ)) (metas : List TraceMetaModel) → AreTraces files (map trace metas) → length metas ≡ length files
+as_many_metas [] [] are = refl
+as_many_metas [] (m ∷ metas) are = absurd are
+as_many_metas (bytes ∷ files) [] are = absurd are
+as_many_metas (bytes ∷ files) (m ∷ metas) are = ap suc (as_many_metas files metas are.1)
 
 -- ---- the metadata of folders
 

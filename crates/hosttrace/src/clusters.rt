@@ -129,6 +129,7 @@ pub fn report_of(alloc: Global, cluster: &Cluster, drift: u32) -> Result<Vec<u8>
     ensures { IfOk result (λ text. let s = synced_of cluster.now.synced in text.items ≡ report_text cluster.now.hosts.items s.matched s.ambiguous s.fits s.parents s.merged s.placed drift) }
 {
     let synced = &cluster.synced;
+    let mut text = Vec::new(alloc);
     report(
         alloc,
         &cluster.hosts,
@@ -138,7 +139,9 @@ pub fn report_of(alloc: Global, cluster: &Cluster, drift: u32) -> Result<Vec<u8>
         &synced.merged,
         &synced.placed,
         drift,
-    )
+        &mut text,
+    )?;
+    Ok(text)
 }
 
 // The merge with the names of each host. The events aren't copied.

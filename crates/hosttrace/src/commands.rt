@@ -15,7 +15,7 @@ use crate::causes::too_large;
 use crate::clusters::{read_cluster, read_merge, report_of};
 use crate::disks::text_of_disks;
 use crate::folders::{is_crowd, read_folders};
-use crate::hosts::{check_text, read_hosts};
+use crate::hosts::{check_lines, read_hosts};
 use crate::inputs::{read_asked, read_input};
 use crate::making::text_of_make;
 use crate::outputs::{Output, write_output};
@@ -183,7 +183,7 @@ fn text_of_check<S: Store>(
     }
     let files = read_folders(alloc, folders, store)?;
     let metas = read_hosts(alloc, &files)?;
-    Ok(check_text(alloc, &metas)?)
+    Ok(check_lines(alloc, &metas)?)
 }
 
 // The report on the hosts of folders.
@@ -235,7 +235,9 @@ fn text_of_state<S: Store>(
     ensures reads { OnlyReads (store_seen S.holds S.faults store.old store.new) }
 {
     let trace = read_input(threads, alloc, input, store)?;
-    Ok(state_text(alloc, &trace, at)?)
+    let mut text = Vec::new(alloc);
+    state_text(alloc, &trace, at, &mut text)?;
+    Ok(text)
 }
 
 // The answers to the questions of a file, of an input.
@@ -253,5 +255,7 @@ fn text_of_ask<S: Store>(
 {
     let trace = read_input(threads, alloc, input, store)?;
     let questions = read_asked(alloc, questions, store)?;
-    Ok(answers_text(alloc, &trace, &questions)?)
+    let mut text = Vec::new(alloc);
+    answers_text(alloc, &trace, &questions, &mut text)?;
+    Ok(text)
 }

@@ -1,18 +1,18 @@
 //! What the metadata of hosts declares.
-ghost use Rattle.std.specs.Prelude.{◌≡◌, ◌++◌, ◌≤◌, ◌^◌, ◌<◌, ℕ, List, Ok, length, map, IfOk, IfErr, OnOk};
+ghost use Rattle.std.specs.Prelude.{◌≡◌, ◌≤◌, ◌^◌, ◌<◌, ℕ, List, Ok, length, map, IfOk, IfErr};
 ghost use Rattle.type_scope.specs.Traces.{trace};
 ghost use Rattle.type_table.specs.TraceMetas.{IsSoundMeta};
 ghost use Rattle.trace_metadata.specs.Files.{IsTrace, IsRefused, OnRefusal};
 ghost use Rattle.hosttrace.specs.Folders.{MAX_HOSTS};
-ghost use Rattle.hosttrace.specs.Hosts.{AreTraces, host_line, host_lines};
+ghost use Rattle.hosttrace.specs.Hosts.{AreTraces, host_lines};
 ghost use Rattle.hosttrace.specs.Refusals.{HostsRefuse, MetadataRefuses};
 ghost use Rattle.hosttrace.specs.Seen.{FailsOf};
 
 use crate::causes::undeclared;
 use crate::status::Status;
+use report_views::check_text;
 use sqlite_items::Items;
 use std::alloc::Global;
-use std::io::Write;
 use trace_metadata::{MetadataError, read_metadata};
 use trace_types::OutOfMemory;
 use type_table::TraceMeta;
@@ -21,6 +21,7 @@ use type_table::TraceMeta;
 pub fn read_hosts(alloc: Global, files: &[Items<u8>]) -> Result<Vec<TraceMeta>, Status>
     requires { length files.now ≤ MAX_HOSTS }
     ensures traces { IfOk result (λ metas. AreTraces files.now (map trace metas.items)) }
+    ensures each { IfOk result (λ metas. length metas.items ≡ length files.now) }
     ensures fails { IfErr result (λ status. FailsOf (HostsRefuse 0 files.now) status) }
 {
     let mut metas = Vec::new(alloc);
@@ -51,26 +52,13 @@ pub fn host_meta(host: u32, read: Result<TraceMeta, MetadataError>) -> Result<Tr
 }
 
 /// A line for each host, with the numbers of its streams, events and clocks.
-pub fn check_text(alloc: Global, metas: &[TraceMeta]) -> Result<Vec<u8>, OutOfMemory>
+pub fn check_lines(alloc: Global, metas: &[TraceMeta]) -> Result<Vec<u8>, OutOfMemory>
+    requires { length metas.now ≤ MAX_HOSTS }
     ensures { IfOk result (λ text. text.items ≡ host_lines 0 (map trace metas.now)) }
 {
     let mut text = Vec::new(alloc);
     for at in 0..metas.len() {
-        write_host(at as u64, &metas[at], &mut text)?;
+        check_text(alloc, at as u32, &metas[at], &mut text)?;
     }
     Ok(text)
-}
-
-#[tactic(auto, unfolding(type_scope::specs::Traces::trace))]
-fn write_host(host: u64, meta: &TraceMeta, out: &mut Vec<u8>) -> Result<(), OutOfMemory>
-    ensures { OnOk result (out.new.items ≡ out.old.items ++ host_line host (trace meta.now)) }
-{
-    let streams = meta.stream_count();
-    let events = meta.event_count();
-    let clocks = meta.clock_count();
-    writeln!(
-        out,
-        "host {host} streams {streams} events {events} clocks {clocks}"
-    )
-    .map_err(|_| OutOfMemory)
 }

@@ -85,6 +85,7 @@ fn summary_of(
     ensures { IfOk result (λ text. let s = synced_of cluster.now.synced in text.items ≡ made_text hosts rounds s.matched s.ambiguous s.parents s.merged s.placed) }
 {
     let synced = &cluster.synced;
+    let mut text = Vec::new(alloc);
     made_text(
         alloc,
         hosts,
@@ -93,5 +94,7 @@ fn summary_of(
         &synced.forest,
         &synced.merged,
         &synced.placed,
-    )
+        &mut text,
+    )?;
+    Ok(text)
 }

@@ -128,5 +128,7 @@ fn path_text(alloc: Global, found: &PlacedMerge, window: Window) -> Result<Vec<u
         Err(PathError::NoThread) => return Err(Status::Refused(Refusal::NoThread { host, tid })),
         Err(PathError::OutOfMemory) => return Err(Status::NoMemory),
     };
-    Ok(pieces_text(alloc, &pieces)?)
+    let mut text = Vec::new(alloc);
+    pieces_text(alloc, &pieces, &mut text)?;
+    Ok(text)
 }

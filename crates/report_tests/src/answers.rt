@@ -117,7 +117,9 @@ pub fn report_of<R: Abort + AllocGlobal>(
     let fits = fits(alloc, count, &messages, 1000)?;
     assert!(rt; fits.len() == hosts.len() * hosts.len());
     let parents = forest(alloc, count, &fits)?;
-    Ok(report(
-        alloc, hosts, &messages, &fits, &parents, merged, placed, 1000,
-    )?)
+    let mut text = Vec::new(alloc);
+    report(
+        alloc, hosts, &messages, &fits, &parents, merged, placed, 1000, &mut text,
+    )?;
+    Ok(text)
 }

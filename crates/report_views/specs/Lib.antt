@@ -14,3 +14,4 @@ pub mod LongNames
 pub mod Ordered
 pub mod TimeLines
 pub mod CallLines
+pub mod CheckText

@@ -1,5 +1,5 @@
 //! The text of the answers to questions.
-ghost use Rattle.std.specs.Prelude.{◌≡◌, ◌++◌, IfOk, OnOk, flat_map};
+ghost use Rattle.std.specs.Prelude.{◌≡◌, ◌++◌, IfOk, OnOk, OnErr, flat_map};
 ghost use Rattle.std.specs.List.{AllByRecursion};
 ghost use Rattle.event_list.specs.Names.{names_at};
 ghost use Rattle.kernel_provider.specs.Replay.{state_at};
@@ -15,8 +15,24 @@ use std::alloc::Global;
 use std::io::Write;
 use trace_types::{OutOfMemory, Text};
 
-/// The answers to questions about any path, a line each, in their order. The only error is lack of memory.
+/// Appends the answers to questions about any path, a line each, in their order. The only error is lack of memory, after
+/// which nothing has changed.
 pub fn answers_text(
+    alloc: Global,
+    trace: &MergedTrace,
+    questions: &[Question],
+    out: &mut Vec<u8>,
+) -> Result<(), OutOfMemory>
+    requires merge { IsMerge trace.now.events.items }
+    requires questions { AllByRecursion IsTimely questions.now }
+    ensures text { OnOk result (out.new.items ≡ out.old.items ++ flat_map (asked_text (names_at trace.now.names.items) (state_at trace.now.events.items)) questions.now) }
+    ensures err { OnErr result (out.new.items ≡ out.old.items) }
+{
+    out.append(&mut answer_lines(alloc, trace, questions)?)?;
+    Ok(())
+}
+
+fn answer_lines(
     alloc: Global,
     trace: &MergedTrace,
     questions: &[Question],

@@ -1,5 +1,5 @@
 //! The report on hosts that were brought to one clock.
-ghost use Rattle.std.specs.Prelude.{◌≡◌, ◌++◌, ◌*◌, ◌^◌, ◌<◌, ◌≤◌, ◌∷◌, [], All, IfOk, OnOk, codes, flat_map, length, slice_get};
+ghost use Rattle.std.specs.Prelude.{◌≡◌, ◌++◌, ◌*◌, ◌^◌, ◌<◌, ◌≤◌, ◌∷◌, [], All, IfOk, OnOk, OnErr, codes, flat_map, length, slice_get};
 ghost use Rattle.std.specs.Fmt.{decimal};
 ghost use Rattle.trace_types.specs.Order.{RiseFrom};
 ghost use Rattle.host_tree.specs.Points.{IsBetween};
@@ -19,10 +19,34 @@ use std::alloc::Global;
 use std::io::Write;
 use trace_types::{HostEvents, Merged, OutOfMemory, RefusedPacket, write_byte_text};
 
-/// The report: what was read of each host, how their clocks fit, which messages stand the wrong way round in the merge,
-/// how busy each processor was, how long each thread ran, and which system calls were made.
-/// `drift` is in parts per million. The only error is lack of memory.
+/// Appends the report: what was read of each host, how their clocks fit, which messages stand the wrong way round in the
+/// merge, how busy each processor was, how long each thread ran, and which system calls were made.
+/// `drift` is in parts per million. The only error is lack of memory, after which nothing has changed.
 pub fn report(
+    alloc: Global,
+    hosts: &[HostEvents],
+    messages: &Messages,
+    fits: &[Fit],
+    forest: &Parents,
+    merged: &[Merged],
+    placed: &[Placed],
+    drift: u32,
+    out: &mut Vec<u8>,
+) -> Result<(), OutOfMemory>
+    requires few { length hosts.now ≤ 64 }
+    requires square { length fits.now ≡ length hosts.now * length hosts.now }
+    requires between { All (IsBetween (length hosts.now)) messages.now.matched.items }
+    requires placed { length placed.now < 2 ^ 32 }
+    requires rises { RiseFrom 0 merged.now }
+    ensures text { OnOk result (out.new.items ≡ out.old.items ++ report_text hosts.now messages.now.matched.items messages.now.ambiguous fits.now forest.now.items merged.now placed.now drift) }
+    ensures err { OnErr result (out.new.items ≡ out.old.items) }
+{
+    let mut text = report_lines(alloc, hosts, messages, fits, forest, merged, placed, drift)?;
+    out.append(&mut text)?;
+    Ok(())
+}
+
+fn report_lines(
     alloc: Global,
     hosts: &[HostEvents],
     messages: &Messages,

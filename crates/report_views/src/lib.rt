@@ -5,6 +5,7 @@ mod answers;
 mod call_lines;
 mod call_name;
 mod cause_word;
+mod check;
 mod clock_lines;
 mod disks;
 mod events;
@@ -21,6 +22,7 @@ mod time_lines;
 mod value_text;
 
 pub use answers::answers_text;
+pub use check::check_text;
 pub use disks::disks_text;
 pub use events::{BATCH_LENGTH, NAMES_SIZE, batch_length, batch_texts, events_head};
 pub use host_report::report;

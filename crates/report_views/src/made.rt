@@ -1,5 +1,5 @@
 //! The summary of made traces.
-ghost use Rattle.std.specs.Prelude.{◌≡◌, ◌++◌, ◌^◌, ◌<◌, IfOk, OnOk, length};
+ghost use Rattle.std.specs.Prelude.{◌≡◌, ◌++◌, ◌^◌, ◌<◌, IfOk, OnOk, OnErr, length};
 ghost use Rattle.report_views.specs.Made.{inverted_count_line, made_line, made_text};
 
 use crate::clock_lines::write_trees;
@@ -11,9 +11,28 @@ use std::alloc::Global;
 use std::io::Write;
 use trace_types::{Merged, OutOfMemory};
 
-/// The summary of so many made hosts and rounds: how many events they have, and how messages and clocks fit. The only error is
-/// lack of memory.
+/// Appends the summary of so many made hosts and rounds: how many events they have, and how messages and clocks fit. The only
+/// error is lack of memory, after which nothing has changed.
 pub fn made_text(
+    alloc: Global,
+    hosts: u32,
+    rounds: u32,
+    messages: &Messages,
+    forest: &[Parent],
+    merged: &[Merged],
+    placed: &[Placed],
+    out: &mut Vec<u8>,
+) -> Result<(), OutOfMemory>
+    requires { length placed.now < 2 ^ 32 }
+    ensures text { OnOk result (out.new.items ≡ out.old.items ++ made_text hosts rounds messages.now.matched.items messages.now.ambiguous forest.now merged.now placed.now) }
+    ensures err { OnErr result (out.new.items ≡ out.old.items) }
+{
+    let mut text = made_lines(alloc, hosts, rounds, messages, forest, merged, placed)?;
+    out.append(&mut text)?;
+    Ok(())
+}
+
+fn made_lines(
     alloc: Global,
     hosts: u32,
     rounds: u32,

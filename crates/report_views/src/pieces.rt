@@ -1,5 +1,5 @@
 //! The text of a critical path.
-ghost use Rattle.std.specs.Prelude.{◌≡◌, ◌++◌, IfOk, OnOk};
+ghost use Rattle.std.specs.Prelude.{◌≡◌, ◌++◌, IfOk, OnOk, OnErr};
 ghost use Rattle.report_views.specs.Pieces.{piece_line, pieces_text, what_word};
 
 use critical_path::{PathPiece, What};
@@ -7,8 +7,20 @@ use std::alloc::Global;
 use std::io::Write;
 use trace_types::OutOfMemory;
 
-/// A line for each piece, in their order. The only error is lack of memory.
-pub fn pieces_text(alloc: Global, pieces: &[PathPiece]) -> Result<Vec<u8>, OutOfMemory>
+/// Appends a line for each piece, in their order. The only error is lack of memory, after which nothing has changed.
+pub fn pieces_text(
+    alloc: Global,
+    pieces: &[PathPiece],
+    out: &mut Vec<u8>,
+) -> Result<(), OutOfMemory>
+    ensures text { OnOk result (out.new.items ≡ out.old.items ++ pieces_text pieces.now) }
+    ensures err { OnErr result (out.new.items ≡ out.old.items) }
+{
+    out.append(&mut piece_lines(alloc, pieces)?)?;
+    Ok(())
+}
+
+fn piece_lines(alloc: Global, pieces: &[PathPiece]) -> Result<Vec<u8>, OutOfMemory>
     ensures { IfOk result (λ text. text.items ≡ pieces_text pieces.now) }
 {
     let mut text = Vec::new(alloc);

@@ -1,5 +1,5 @@
 //! The text of the state at an instant.
-ghost use Rattle.std.specs.Prelude.{◌≡◌, ◌++◌, ◌∷◌, [], IfOk, OnOk, flat_map, filter, IsPermutation};
+ghost use Rattle.std.specs.Prelude.{◌≡◌, ◌++◌, ◌∷◌, [], ℕ, List, IfOk, OnOk, OnErr, flat_map, filter, IsPermutation};
 ghost use Rattle.std.specs.List.{AllPairs};
 ghost use Rattle.trace_types.specs.Paths.{rank_of};
 ghost use Rattle.event_list.specs.Names.{names_at};
@@ -15,8 +15,22 @@ use std::alloc::Global;
 use std::io::Write;
 use trace_types::{OutOfMemory, Text, Value};
 
-/// The text of the state at an instant. The only error is lack of memory.
-pub fn state_text(alloc: Global, trace: &MergedTrace, at: u64) -> Result<Vec<u8>, OutOfMemory>
+/// Appends the text of the state at an instant. The only error is lack of memory, after which nothing has changed.
+pub fn state_text(
+    alloc: Global,
+    trace: &MergedTrace,
+    at: u64,
+    out: &mut Vec<u8>,
+) -> Result<(), OutOfMemory>
+    requires { RiseFrom 0 trace.now.events.items }
+    ensures text { OnOk result ((text : List ℕ) × IsStateText (names_at trace.now.names.items) (state_at trace.now.events.items at) text × (out.new.items ≡ out.old.items ++ text)) }
+    ensures err { OnErr result (out.new.items ≡ out.old.items) }
+{
+    out.append(&mut state_lines(alloc, trace, at)?)?;
+    Ok(())
+}
+
+fn state_lines(alloc: Global, trace: &MergedTrace, at: u64) -> Result<Vec<u8>, OutOfMemory>
     requires { RiseFrom 0 trace.now.events.items }
     ensures { IfOk result (λ text. IsStateText (names_at trace.now.names.items) (state_at trace.now.events.items at) text.items) }
 {

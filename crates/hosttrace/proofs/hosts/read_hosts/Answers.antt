@@ -1,7 +1,7 @@
 use Rattle.std.proofs.Common.{◌≡◌, ◌∷◌, [], ◌++◌, ◌+◌, map, drop, sym, subst, rules}
 use Rattle.std.proofs.lemmas.List.{drop_all, drop_more, map-append}
 use Rattle.type_scope.specs.Traces.{trace}
-use Rattle.hosttrace.proofs.Left.{HostsLeft, next_host, no_host}
+use Rattle.hosttrace.proofs.Left.{HostsLeft, as_many_metas, next_host, no_host}
 use Rattle.hosttrace.proofs.hosts.read_hosts.Goals as goal
 
 pub loop-at-preserved : goal.loop-at-preserved
@@ -12,3 +12,6 @@ loop-at-preserved c =
 
 pub returns-clause-traces : goal.returns-clause-traces
 returns-clause-traces c = no_host c.args.files.now c.loop-at.at (map trace c.loop-at.metas.items) c.loop-at.invariant (drop_all c.loop-at.at c.args.files.now c.loop-at-test.false)
+
+pub returns-clause-each : goal.returns-clause-each
+returns-clause-each c = as_many_metas c.args.files.now c.loop-at.metas.items (no_host c.args.files.now c.loop-at.at (map trace c.loop-at.metas.items) c.loop-at.invariant (drop_all c.loop-at.at c.args.files.now c.loop-at-test.false))

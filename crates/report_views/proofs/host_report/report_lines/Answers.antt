@@ -4,7 +4,7 @@ use Rattle.report_views.specs.CallLines.{call_lines}
 use Rattle.report_views.specs.Report.{clocks_part, hosts_part, merge_part}
 use Rattle.report_views.specs.TimeLines.{time_lines}
 use Rattle.report_views.proofs.ReportLines.{six_parts}
-use Rattle.report_views.proofs.host_report.report.Goals as goal
+use Rattle.report_views.proofs.host_report.report_lines.Goals as goal
 
 pub returns : goal.returns
 returns c =

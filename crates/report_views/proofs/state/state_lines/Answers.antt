@@ -8,7 +8,7 @@ use Rattle.report_views.specs.Rows.{rows_after}
 use Rattle.event_list.specs.Names.{names_at}
 use Rattle.report_views.specs.StateText.{has_value, row_text}
 use Rattle.report_views.proofs.Listed.{listing}
-use Rattle.report_views.proofs.state.state_text.Goals as goal
+use Rattle.report_views.proofs.state.state_lines.Goals as goal
 
 pub returns : goal.returns
 returns c =

@@ -11,7 +11,7 @@ use Rattle.history_core.proofs.Agreement.{whole_agreement}
 use Rattle.report_views.specs.AnswersText.{asked_text, answer_text}
 use Rattle.report_views.specs.Asked.{IsTimely}
 use Rattle.event_list.proofs.Prefixes.{all_at, take_more}
-use Rattle.report_views.proofs.answers.answers_text.Goals as goal
+use Rattle.report_views.proofs.answers.answer_lines.Goals as goal
 
 pub loop-question-preserved : goal.loop-question-preserved
 loop-question-preserved c =
