@@ -47,6 +47,7 @@ pub fn critical(
     ensures path { IfOk result (λ pieces. (merged : List Merged) (placed : List Placed) → IsMergeWithMessages merged placed → IsGraphOf merged placed graph.now → IsCriticalPath merged placed host tid from to pieces.items) }
     ensures named { IfOk result (λ _. Contains graph.now.named (record { host = host; tid = tid })) }
     ensures no_thread { result ≡ Err NoThread → ¬ Contains graph.now.named (record { host = host; tid = tid }) }
+    ensures unnamed { ¬ Contains graph.now.named (record { host = host; tid = tid }) → result ≡ Err NoThread }
 {
     if !graph.names(host, tid) {
         return Err(PathError::NoThread);

@@ -1,5 +1,6 @@
 pub mod Devices
 pub mod Notes
 pub mod Order
+pub mod Places
 pub mod Requests
 pub mod Steps

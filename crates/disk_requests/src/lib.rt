@@ -10,5 +10,5 @@ mod table;
 mod tests;
 
 pub use device::{DIGITS, Device};
-pub use laws::one_answer;
+pub use laws::{one_answer, pairs_of_places};
 pub use table::{DiskTable, requests};

@@ -1,5 +1,5 @@
 //! The steepest and the flattest line between lower and upper points.
-ghost use Rattle.std.specs.Prelude.{◌<◌, ◌≤◌, ◌^◌, ◌↔◌, length, IfOk};
+ghost use Rattle.std.specs.Prelude.{◌<◌, ◌≤◌, ◌^◌, ◌↔◌, length, IfOk, IsOk};
 ghost use Rattle.hull_lines.specs.Outcomes.{IsMap, IsAbsent, IfMap, IfAbsent, IfRefused, IsMapOf, AreCounts, IsRefusal, LacksPoints};
 ghost use Rattle.hull_lines.specs.Between.{IsMapBetween, IsApart};
 ghost use Rattle.hull_lines.specs.Slopes.{IsUsable};
@@ -45,6 +45,9 @@ pub fn lines(lower: &[ClockPoint], upper: &[ClockPoint], drift: u32) -> Result<F
     ensures map { IfOk result (λ fit. IfMap fit (IsMapOf lower.now upper.now drift)) }
     ensures absent { IfOk result (λ fit. IfAbsent fit (AreCounts lower.now upper.now)) }
     ensures refused { IfOk result (λ fit. IfRefused fit (IsRefusal lower.now upper.now drift)) }
+
+    // no error comes: no memory is asked for
+    ensures answers { IsOk result }
 
     // which of the three comes
     ensures mapped { IfOk result (λ fit. IsMap fit ↔ IsUsable lower.now upper.now drift) }
