@@ -36,5 +36,7 @@ pub fn text_of_range<S: Store>(
     ensures reads { OnlyReads (store_seen S.holds S.faults store.old store.new) }
 {
     let trace = read_input(threads, alloc, input, store)?;
-    Ok(range_text(alloc, &trace, span.from, span.to, span.path)?)
+    let mut text = Vec::new(alloc);
+    range_text(alloc, &trace, span.from, span.to, span.path, &mut text)?;
+    Ok(text)
 }

@@ -1,5 +1,5 @@
 //! The text of how an attribute's value changed over a range.
-ghost use Rattle.std.specs.Prelude.{◌≡◌, ◌++◌, ◌<◌, List, IfOk, OnOk, flat_map};
+ghost use Rattle.std.specs.Prelude.{◌≡◌, ◌++◌, ◌<◌, ℕ, List, IfOk, OnOk, OnErr, flat_map};
 ghost use Rattle.event_list.specs.Names.{names_at};
 ghost use Rattle.kernel_provider.specs.Replay.{state_at};
 ghost use Rattle.kernel_provider.specs.Steps.{steps_of};
@@ -18,8 +18,43 @@ use std::alloc::Global;
 use std::io::Write;
 use trace_types::{OutOfMemory, Path, Text};
 
-/// How the value of an attribute changed from one instant up to another, in ns. The only error is lack of memory.
+/// Appends how the value of an attribute changed from one instant up to another, in ns. The only error is lack of memory, after
+/// which nothing has changed.
 pub fn range_text(
+    alloc: Global,
+    trace: &MergedTrace,
+    from: u64,
+    to: u64,
+    path: Path,
+    out: &mut Vec<u8>,
+) -> Result<(), OutOfMemory>
+    requires merge { IsMerge trace.now.events.items }
+    requires order { from < to }
+    requires time { to < TIME_END }
+    ensures text { OnOk result ((text : List ℕ) × IsRangeText (names_at trace.now.names.items) (state_at trace.now.events.items) from to path text × (out.new.items ≡ out.old.items ++ text)) }
+    ensures err { OnErr result (out.new.items ≡ out.old.items) }
+{
+    out.append(&mut range_lines(alloc, trace, from, to, path)?)?;
+    Ok(())
+}
+
+/// Appends the stretches of an attribute's value, a line each, in their order. A call has its name, among those of the path's
+/// host in `names`. The only error is lack of memory, after which nothing has changed.
+pub fn stretches_text(
+    alloc: Global,
+    names: &[Items<Text>],
+    path: Path,
+    stretches: &[Stretch],
+    out: &mut Vec<u8>,
+) -> Result<(), OutOfMemory>
+    ensures text { OnOk result (out.new.items ≡ out.old.items ++ flat_map (stretch_text (names_at names.now) path) stretches.now) }
+    ensures err { OnErr result (out.new.items ≡ out.old.items) }
+{
+    out.append(&mut lines_of(alloc, names, path, stretches)?)?;
+    Ok(())
+}
+
+fn range_lines(
     alloc: Global,
     trace: &MergedTrace,
     from: u64,
@@ -32,11 +67,11 @@ pub fn range_text(
     ensures { IfOk result (λ text. IsRangeText (names_at trace.now.names.items) (state_at trace.now.events.items) from to path text.items) }
 {
     let history = history_of(alloc, &trace.events)?;
-    text_of(alloc, &trace.names, &history, from, to, path)
+    lines_over(alloc, &trace.names, &history, from, to, path)
 }
 
 // The same, of the history of a whole merge.
-fn text_of(
+fn lines_over(
     alloc: Global,
     names: &[Items<Text>],
     history: &History,
@@ -49,12 +84,11 @@ fn text_of(
     ensures { IfOk result (λ text. (merge : List Merged) → IsMerge merge → Stands (steps_of merge) history.now → IsRangeText (names_at names.now) (state_at merge) from to path text.items) }
 {
     let answer = range(alloc, history, from, to, path)?;
-    stretches_text(alloc, names, path, &answer.stretches)
+    lines_of(alloc, names, path, &answer.stretches)
 }
 
-/// The stretches of an attribute's value, a line each, in their order. A call has its name, among those of the path's host in
-/// `names`. The only error is lack of memory.
-pub fn stretches_text(
+// A line for each stretch.
+fn lines_of(
     alloc: Global,
     names: &[Items<Text>],
     path: Path,
