@@ -220,6 +220,7 @@ impl SharedHistory {
     /// Answers as `ask` does if the turn is free, and waits for nobody.
     pub fn try_ask(&self, pass: &mut Pass, t: u64, path: Path) -> TryAnswer
         requires own { pass.old.table ≡ self.now }
+        ensures kept { (pass.new.table ≡ pass.old.table) × (pass.new.plan ≡ pass.old.plan) }
         ensures answered { (asked : Asked) → result ≡ Answer asked → IsAnswered pass.old pass.new t path asked × (pass.new.misses ≡ pass.old.misses) }
         ensures busy { (misses : ℕ) → result ≡ Busy misses → (pass.new ≡ record pass.old { misses = min (pass.old.misses + 1) (2 ^ 64 - 1) }) × (misses ≡ pass.new.misses) }
     {

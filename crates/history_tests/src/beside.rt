@@ -5,7 +5,7 @@ ghost use Rattle.history_tests.specs.Fed.{IsAt, IsReady};
 ghost use denote.Param.Send.{IsSync};
 
 use crate::drawn::{merge, question};
-use crate::fed::feed_some;
+use crate::fed::{feed_some, opened};
 use crate::gates::HoldsHalfWay;
 use crate::replay::Replay;
 use history_core::{Asked, Question};
@@ -165,8 +165,7 @@ fn built_and_asked<R: Threads + Wait + Sync>(
     requires merge { IsMerge events.now }
     requires limit { 0 < limit }
 {
-    let provider = Provider::new(alloc);
-    let (shared, builder, mut pass) = SharedHistory::open(alloc, events)?;
+    let (shared, builder, provider, mut pass) = opened(alloc, events)?;
     let jobs = jobs(alloc, &shared, &mut pass, questions, limit)?;
     let shared = &shared;
     let (pass, put) = thread::join(

@@ -4,7 +4,7 @@ ghost use Rattle.history_core.specs.Agreement.{IsMerge};
 ghost use Rattle.history_tests.specs.Fed.{IsAt};
 
 use crate::closed::switch;
-use crate::fed::feed_some;
+use crate::fed::{feed_some, opened};
 use crate::gates::HoldsTheTurn;
 use history_core::{Answer, Asked};
 use history_lock::{Builder, Pass, SharedHistory, TryAnswer};
@@ -26,8 +26,7 @@ const CPU_0: Path = Path::Cpu {
 // What a pass is told after 17, 18 and all steps of two switches, and what it has seen when it took in the builder's.
 fn two_switches<R: Wait>(rt: &R, alloc: Global) -> Result<([Asked; 3], u64), OutOfMemory> {
     let events = [switch(100, 0, 0, 7), switch(250, 7, 1, 0)];
-    let mut provider = Provider::new(alloc);
-    let (shared, mut builder, mut first) = SharedHistory::open(alloc, &events)?;
+    let (shared, mut builder, mut provider, mut first) = opened(alloc, &events)?;
     let mut pass = shared.split(&mut first);
     feed_some(
         rt,
@@ -101,8 +100,7 @@ fn one_instant<R: Wait>(rt: &R, alloc: Global) -> Result<[Answer; 4], OutOfMemor
         switch(100, 7, 1, 8),
         switch(250, 8, 1, 0),
     ];
-    let mut provider = Provider::new(alloc);
-    let (shared, mut builder, mut pass) = SharedHistory::open(alloc, &events)?;
+    let (shared, mut builder, mut provider, mut pass) = opened(alloc, &events)?;
     feed_some(
         rt,
         &shared,
@@ -173,8 +171,7 @@ fn busy_and_free<R: Threads + Wait + Sync>(
 ) -> Result<(TryAnswer, TryAnswer), OutOfMemory>
     requires merge { IsMerge events.now }
 {
-    let provider = Provider::new(alloc);
-    let (shared, builder, pass) = SharedHistory::open(alloc, events)?;
+    let (shared, builder, provider, pass) = opened(alloc, events)?;
     let shared = &shared;
     let (fed, (busy, mut pass)) = thread::join(
         rt,

@@ -1,5 +1,4 @@
-use Rattle.std.proofs.Common.{◌∙◌, rules}
-use Rattle.std.proofs.lemmas.Result.{IfOk-weaker}
+use Rattle.std.proofs.Common.{◌∙◌, ◌++◌, rules}
 use Rattle.report_views.specs.Report.{report_text}
 use Rattle.host_sync.specs.Hosts.{synced_of}
 use Rattle.hosttrace.proofs.Clustered.{can_report}
@@ -24,4 +23,4 @@ returns c =
     let fits = c.deref-2.ensures.value in
     let merged = c.deref-3.ensures.value in
     let placed = c.deref-4.ensures.value in
-    IfOk-weaker c.report.result _ _ (λ text is. is ∙ (λ i. report_text (hosts i) synced.messages.matched.items synced.messages.ambiguous (fits i) synced.forest.items (merged i) (placed i) c.args.drift)) c.report.ensures
+    c.in_ok-report.ensures.text ∙ (λ i. c.new-text.ensures.items i ++ report_text (hosts i) synced.messages.matched.items synced.messages.ambiguous (fits i) synced.forest.items (merged i) (placed i) c.args.drift)

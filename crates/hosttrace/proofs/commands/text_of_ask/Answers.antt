@@ -10,7 +10,7 @@ use Rattle.hosttrace.proofs.commands.text_of_ask.Goals as goal
 pub returns-clause-text : goal.returns-clause-text
 returns-clause-text g c =
     let asked = known_before g.S.Store.holds g.S.Store.faults (λ files. AreAsked (bytes_of files [] c.args.questions.now) c.in_ok-questions.questions.items) c.args.store.now c.read_input.new.store c.in_ok-trace.ensures.reads c.in_ok-questions.ensures.asked in
-    ask_output (g.S.Store.holds c.args.store.now) c.args.input.now c.args.questions.now c.in_ok-trace.trace c.in_ok-questions.questions.items c.in_ok-answers_text.field-0.items c.in_ok-trace.ensures.trace asked (search rules)
+    ask_output (g.S.Store.holds c.args.store.now) c.args.input.now c.args.questions.now c.in_ok-trace.trace c.in_ok-questions.questions.items c.answers_text.new.out.items c.in_ok-trace.ensures.trace asked (search rules)
 
 pub returns-in_err-trace-clause-fails : goal.returns-in_err-trace-clause-fails
 returns-in_err-trace-clause-fails g c =

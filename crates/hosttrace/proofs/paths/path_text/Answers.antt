@@ -21,4 +21,4 @@ returns-clause-text c =
     let merged : c.deref.result.now ≡ found.merged.items = search rules in
     let placed : c.deref-2.result.now ≡ found.placed.items = search rules in
     let is : IsGraphOf found.merged.items found.placed.items graph = subst₂ (λ ms ps. IsGraphOf ms ps graph) merged placed c.in_ok-graph.ensures in
-    path_text_of found.merged.items found.placed.items graph window.host window.tid window.from window.to is c.requires.merge c.in-Ok.ensures.named c.in-Ok.pieces.items c.in-Ok.ensures.path c.in_ok-pieces_text.field-0.items (search rules)
+    path_text_of found.merged.items found.placed.items graph window.host window.tid window.from window.to is c.requires.merge c.in-Ok.ensures.named c.in-Ok.pieces.items c.in-Ok.ensures.path c.pieces_text.new.out.items (search rules)
