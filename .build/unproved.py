@@ -17,7 +17,7 @@ FAILED = 70
 SECONDS = "600"
 # Options whose value is the name of a file, and those that have another value.
 FILES = ("--list", "--questions")
-VALUES = ("--at", "--host", "--tid", "--from", "--to", "--drift", "--workers", "--number", "--hosts", "--rounds")
+VALUES = ("--at", "--attribute", "--host", "--tid", "--from", "--to", "--drift", "--workers", "--number", "--hosts", "--rounds")
 # Lines of rt's on standard error; the last tells how the run ended.
 RT_LINES = re.compile(rb"(interpreter|checked|races|run|rt|note|help|warning)[:=]")
 ENDED = re.compile(rb"^run=ended status=(\d+) ", re.M)

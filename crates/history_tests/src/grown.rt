@@ -75,7 +75,10 @@ pub fn told_of(tree: &Tree, node: usize, number: usize, t: u64) -> (Option<u64>,
         return (None, false);
     }
     let end = nodes.shape(node).end;
-    let record = nodes.node(node, &mut Reads::new()).intervals.find(number, t);
+    let record = nodes
+        .node(node, &mut Reads::new())
+        .intervals
+        .find(number, t);
     (end, record.is_some())
 }
 

@@ -20,6 +20,8 @@ mod listed;
 #[cfg(test)]
 mod placed;
 #[cfg(test)]
+mod ranged;
+#[cfg(test)]
 mod replay;
 #[cfg(test)]
 mod shared;

@@ -1,5 +1,6 @@
 //! Paths and their numbers, and a history that is asked while it grows.
 ghost use Rattle.std.specs.Prelude.{◌<◌, ◌^◌, IfOk};
+ghost use Rattle.trace_types.specs.declared.limits.TheConstants.{TIME_END};
 ghost use Rattle.history_core.specs.Agreement.{IsMerge};
 
 use attribute_tree::Attributes;
@@ -7,6 +8,7 @@ use event_list::read_list;
 use history_core::{Answer, Asked, History};
 use history_nodes::Reads;
 use kernel_provider::Provider;
+use range_query::{Stretch, range};
 use std::alloc::AllocGlobal;
 use std::process::Abort;
 use std::test::Fail;
@@ -81,6 +83,28 @@ fn asked<R: AllocGlobal + Threads + Sync>(
         answer: history.answer(t, path),
         count: history.count(),
     })
+}
+
+// How an attribute's value changed in the history of a list's first steps: up to which end it is built, and the first three stretches.
+fn asked_over<R: AllocGlobal + Threads + Sync>(
+    rt: &R,
+    steps: u32,
+    from: u64,
+    to: u64,
+    path: Path,
+) -> Result<(u64, [Option<Stretch>; 3]), Fail>
+    requires { (from < to) × (to < TIME_END) }
+{
+    let events = events_of(rt, TWO_SWITCHES)?;
+    let history = built(rt, &events, steps)?;
+    let answer = range(rt.alloc(), &history, from, to, path)?;
+    let at = answer.stretches.as_slice();
+    let three = [at.first().copied(), at.get(1).copied(), at.get(2).copied()];
+    Ok((answer.built, three))
+}
+
+fn stretch(from: u64, to: u64, value: Value) -> Option<Stretch> {
+    Some(Stretch { from, to, value })
 }
 
 // Adds a path, which must be new.
@@ -200,7 +224,10 @@ fn two_switches_at_one_instant_close_nothing(rt: HostRuntime) -> Result<(), Fail
     assert_eq!(rt; history.built(), 1 << 62);
     for number in 0..16 {
         for t in [0, 99, 100, 101, 250, (1 << 62) - 1] {
-            assert!(rt; stored(&history, number, t).is_none(), "number {number} at {t}");
+            assert!(rt;
+                stored(&history, number, t).is_none(),
+                "number {number} at {t}"
+            );
         }
     }
     Ok(())
@@ -262,5 +289,24 @@ fn after_all_steps(rt: HostRuntime) -> Result<(), Fail> {
         asked(&rt, TWO_SWITCHES, 100, 1 << 62, CPU_0)?,
         Asked { answer, count }
     );
+    Ok(())
+}
+
+// The history is built to no instant, to 100, to 250, and to the end of all times.
+#[test]
+fn a_range_ends_where_the_history_is_built(rt: HostRuntime) -> Result<(), Fail> {
+    let before = stretch(50, 100, Value::Null);
+    let between = stretch(100, 250, Value::Int(7));
+    let after = stretch(250, 300, Value::Int(0));
+    assert!(rt; asked_over(&rt, 0, 50, 300, CPU_0)? == (0, [None, None, None]));
+    assert!(rt; asked_over(&rt, 17, 50, 300, CPU_0)? == (100, [before, None, None]));
+    assert!(rt; asked_over(&rt, 18, 50, 300, CPU_0)? == (250, [before, between, None]));
+    assert!(rt; asked_over(&rt, 100, 50, 300, CPU_0)? == (1 << 62, [before, between, after]));
+    Ok(())
+}
+
+#[test]
+fn a_range_from_the_built_end_on_has_no_stretch(rt: HostRuntime) -> Result<(), Fail> {
+    assert!(rt; asked_over(&rt, 18, 250, 300, CPU_0)? == (250, [None, None, None]));
     Ok(())
 }

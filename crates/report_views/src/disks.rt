@@ -71,11 +71,7 @@ fn write_bounds(device: &Device, out: &mut Vec<u8>) -> Result<(), OutOfMemory>
     .map_err(|_| OutOfMemory)
 }
 
-fn write_latencies(
-    device: &Device,
-    digits: &[u64],
-    out: &mut Vec<u8>,
-) -> Result<(), OutOfMemory>
+fn write_latencies(device: &Device, digits: &[u64], out: &mut Vec<u8>) -> Result<(), OutOfMemory>
     ensures { OnOk result (out.new.items ≡ out.old.items ++ latency_lines device.now.host device.now.dev 0 digits.now) }
 {
     for (place, count) in digits.iter().enumerate() {
