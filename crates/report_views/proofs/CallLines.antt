@@ -1,6 +1,6 @@
 -- The counts of calls, and the calls in order.
-use Rattle.std.proofs.Common.{◌≡◌, ◌≢◌, ◌⊎◌, inl, inr, ℕ, zero, suc, ◌+◌, ◌^◌, ◌<◌, ◌≤◌, Bool, true, false, cond, if◌then◌else◌, nat_lt, Some, List, [], ◌∷◌, ◌++◌, length, map, get_or, take, slice_get, slice_set, add-one, add-zero, zero-add, codes, refl, sym, ap, ap₂, ◌∙◌, subst, arith, length-take}
-use Rattle.std.specs.Prelude.{count_by, filter, flat_map, ◌==◌, All}
+use Rattle.std.proofs.Common.{◌≡◌, ◌≢◌, ◌⊎◌, inl, inr, ℕ, zero, suc, ◌+◌, ◌^◌, ◌<◌, ◌≤◌, Bool, true, false, if◌then◌else◌, nat_lt, List, [], ◌∷◌, ◌++◌, length, map, get_or, take, slice_set, add-one, add-zero, zero-add, codes, refl, sym, ap, ap₂, ◌∙◌, subst, arith}
+use Rattle.std.specs.Prelude.{filter, flat_map, ◌==◌, All}
 use Rattle.std.specs.List.{AllByRecursion, range_with_len}
 use Rattle.std.specs.Fmt.{decimal}
 use Rattle.std.specs.Ordering.{nat_cmp, is_eq, ordering_reverse, ordering_then, then_cmp}

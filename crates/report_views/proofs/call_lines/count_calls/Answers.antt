@@ -1,4 +1,4 @@
-use Rattle.std.proofs.Common.{◌≡◌, ◌<◌, ◌^◌, length, length-take, take, arith}
+use Rattle.std.proofs.Common.{◌<◌, ◌^◌, length, length-take, take, arith}
 use Rattle.report_views.proofs.CallLines.{calls_few, calls_more}
 use Rattle.report_views.proofs.call_lines.count_calls.Goals as goal
 

@@ -1,4 +1,4 @@
-use Rattle.std.proofs.Common.{◌≡◌, ◌<◌, ap, ap₂, ◌∙◌, get_or, length, rules, arith}
+use Rattle.std.proofs.Common.{ap₂, ◌∙◌, get_or, length, rules}
 use Rattle.report_views.specs.CallLines.{AreCalls, call_count, counted_lines}
 use Rattle.report_views.proofs.CallLines.{counted_same}
 use Rattle.report_views.proofs.ReportLines.{same_text}
