@@ -1,5 +1,5 @@
 -- The stretches of a whole merge's history are those of its replay, and have one text.
-use Rattle.std.proofs.Common.{◌≡◌, ℕ, ◌<◌, ◌≤◌, min, List, [], ◌∷◌, refl, sym, ap, ◌∙◌, subst, arith, flat_map}
+use Rattle.std.proofs.Common.{◌≡◌, ℕ, ◌<◌, ◌≤◌, min, List, [], ◌∷◌, sym, ap, ◌∙◌, subst, arith, flat_map}
 use Rattle.std.specs.List.{AllByRecursion}
 use Rattle.trace_types.specs.declared.path.Path.{Path as AttributePath}
 use Rattle.trace_types.specs.declared.value.Value.{Value}
@@ -8,7 +8,7 @@ use Rattle.kernel_provider.specs.Replay.{state_at}
 use Rattle.kernel_provider.specs.Rules.{Values}
 use Rattle.kernel_provider.specs.Steps.{steps_of}
 use Rattle.history_core.specs.Agreement.{IsMerge}
-use Rattle.history_core.specs.Changes.{END, built_of}
+use Rattle.history_core.specs.Changes.{END}
 use Rattle.history_core.specs.Stands.{HistoryModel, Stands}
 use Rattle.history_core.specs.declared.question.Answer.TheVariants.{State}
 use Rattle.history_core.proofs.Agreement.{whole_agreement}

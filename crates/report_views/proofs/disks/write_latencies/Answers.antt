@@ -1,4 +1,4 @@
-use Rattle.std.proofs.Common.{◌≡◌, ◌∙◌, ◌+◌, ◌∷◌, ◌++◌, [], ap, arith, append_assoc, get_or, length, length-take, sym, take}
+use Rattle.std.proofs.Common.{◌≡◌, ◌∙◌, ◌+◌, ◌++◌, ap, arith, append_assoc, get_or, length, length-take, sym, take}
 use Rattle.std.proofs.lemmas.List.{take_more}
 use Rattle.report_views.specs.DisksText.{latency_lines, latency_told}
 use Rattle.report_views.proofs.DiskLines.{latency_more}

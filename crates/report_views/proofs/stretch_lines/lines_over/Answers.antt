@@ -1,4 +1,4 @@
-use Rattle.std.proofs.Common.{◌≡◌, ◌∙◌, flat_map, ap}
+use Rattle.std.proofs.Common.{◌∙◌, flat_map, ap}
 use Rattle.std.proofs.lemmas.Result.{IfOk-weaker}
 use Rattle.event_list.specs.Names.{names_at}
 use Rattle.report_views.specs.StretchesText.{stretch_text}
