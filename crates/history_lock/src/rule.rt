@@ -5,6 +5,7 @@ use atomic_table::{Join, Play, Split, TableRule};
 use history_core::History;
 use std::marker::{Brand, PhantomData};
 
+// The rule of the turn.
 pub struct Turn;
 
 impl TableRule<Option<History>, View, ()> for Turn {
@@ -29,6 +30,7 @@ impl Planned for Brand {
     ghost plan = { [] };
 }
 
+// The builder's first step, which tells the rule the plan.
 pub struct Begin<J: Planned> {
     marker: PhantomData<J>,
 }
@@ -39,6 +41,7 @@ impl<J: Planned> Play<Option<History>, View> for Begin<J> {
     ghost then = { Begins J.plan };
 }
 
+// The turn, where it was free, with the history; else a miss.
 pub struct Take;
 
 impl Play<Option<History>, View> for Take {
@@ -47,6 +50,7 @@ impl Play<Option<History>, View> for Take {
     ghost then = { Takes };
 }
 
+// The count of steps, read with the turn.
 pub struct Look;
 
 impl Play<Option<History>, View> for Look {
@@ -55,6 +59,7 @@ impl Play<Option<History>, View> for Look {
     ghost then = { Looks };
 }
 
+// The count of steps, read by a builder that feeds no more.
 pub struct Finish;
 
 impl Play<Option<History>, View> for Finish {
@@ -63,6 +68,7 @@ impl Play<Option<History>, View> for Finish {
     ghost then = { Finishes };
 }
 
+// One step more was fed.
 pub struct Bump;
 
 impl Play<Option<History>, View> for Bump {
@@ -71,6 +77,7 @@ impl Play<Option<History>, View> for Bump {
     ghost then = { Bumps };
 }
 
+// The turn given back, with the history.
 pub struct Give;
 
 impl Play<Option<History>, View> for Give {
@@ -79,6 +86,7 @@ impl Play<Option<History>, View> for Give {
     ghost then = { Gives };
 }
 
+// A pass cut in two, and two made one.
 pub struct Pair;
 
 impl Split<View> for Pair {

@@ -44,7 +44,7 @@ impl Model for SharedHistory {
 
 impl SharedHistory {
     // A history of no step, and the builder's seat.
-    pub fn begin<J: Planned>(alloc: Global) -> Result<(SharedHistory, Token), OutOfMemory>
+    pub(crate) fn begin<J: Planned>(alloc: Global) -> Result<(SharedHistory, Token), OutOfMemory>
         requires short { length J.plan < 2 ^ 64 }
         ensures { IfOk result (λ r. (r.1.table_id ≡ r.0) × (r.1.me ≡ (starter J.plan, []))) }
     {
@@ -109,7 +109,7 @@ impl SharedHistory {
     }
 
     // One try to answer a question. The count of the answer is the newest look.
-    pub fn answer_once<G: Gate>(
+    pub(crate) fn answer_once<G: Gate>(
         &self,
         seat: &mut Token,
         t: u64,
@@ -132,7 +132,7 @@ impl SharedHistory {
     }
 
     // One try to feed the next step of the plan. When memory runs out, the history is put back as it was.
-    pub fn feed_once<G: Gate>(
+    pub(crate) fn feed_once<G: Gate>(
         &self,
         seat: &mut Token,
         step: &Step,
@@ -158,7 +158,7 @@ impl SharedHistory {
     }
 
     // The count of steps as the builder leaves it. Its seat is a pass's from then on.
-    pub fn finish(&self, seat: &mut Token) -> u64
+    pub(crate) fn finish(&self, seat: &mut Token) -> u64
         requires own { seat.old.table_id ≡ self.now }
         requires idle { Idle seat.old.me }
         requires builder { seat.old.me.0.builds ≡ true }
@@ -169,7 +169,7 @@ impl SharedHistory {
     }
 
     // The seat of a pass that has seen as much.
-    pub fn split_seat(&self, seat: &mut Token) -> Token
+    pub(crate) fn split_seat(&self, seat: &mut Token) -> Token
         requires own { seat.old.table_id ≡ self.now }
         requires live { seat.old.me.0.live ≡ true }
         ensures kept { (seat.new.table_id ≡ seat.old.table_id) × (seat.new.me ≡ seat.old.me) }
@@ -179,7 +179,7 @@ impl SharedHistory {
     }
 
     // Takes in what the seat of another pass has seen.
-    pub fn join_seat(&self, seat: &mut Token, other: Token)
+    pub(crate) fn join_seat(&self, seat: &mut Token, other: Token)
         requires own { (seat.old.table_id ≡ self.now) × (other.table_id ≡ self.now) }
         requires live { (seat.old.me.0.live ≡ true) × Idle other.me }
         ensures kept { (seat.new.table_id ≡ seat.old.table_id) × (seat.new.me ≡ (informed seat.old.me.0 other.me.0, seat.old.me.1)) }
