@@ -1,5 +1,5 @@
 -- The critical path of an input, and why there is none.
-use Rattle.std.proofs.Common.{Contains, ◌≡◌, ◌≤◌, length, ℕ, inl, inr, List, [], Option, Some, None, subst, sym}
+use Rattle.std.proofs.Common.{Contains, ◌≡◌, ◌≤◌, length, ℕ, inl, inr, List, [], Option, Some, None, refl, subst, sym}
 use Rattle.std.specs.Prelude.{IfSome}
 use Rattle.ht_outside.specs.Files.{Files, bytes_of}
 use Rattle.trace_types.specs.declared.event.Merged.{Merged}
@@ -14,6 +14,8 @@ use Rattle.list_messages.specs.Places.{AreListPlaces}
 use Rattle.wait_graph.specs.Graph.{IsGraphOf, IsMergeWithMessages, WaitGraph}
 use Rattle.wait_graph.specs.Named.{IsNamed}
 use Rattle.critical_path.specs.Pieces.{IsCriticalPath}
+use Rattle.critical_path.specs.declared.path.PathError.{PathError}
+use Rattle.critical_path.specs.declared.path.PathError.TheVariants as no
 use Rattle.critical_path.specs.declared.piece.PathPiece.{PathPiece}
 use Rattle.report_views.specs.Pieces.{pieces_text}
 use Rattle.trace_types.specs.declared.limits.TheConstants.{MAX_EVENTS}
@@ -24,7 +26,8 @@ use Rattle.hosttrace.specs.Clusters.{AreSyncedTraces, IsSyncedCluster}
 use Rattle.hosttrace.specs.Inputs.{IsListTrace}
 use Rattle.hosttrace.specs.Paths.{ArePlacedFolders, IsPathOutput, IsPathText, IsPlacedInput, IsPlacedList}
 use Rattle.hosttrace.specs.Refusals.{InputRefuses, PathRefuses, Refuses, ThreadRefuses}
-use Rattle.hosttrace.specs.Seen.{FailsBy, StoreSeen}
+use Rattle.hosttrace.specs.Seen.{FailsBy, FailsOf, StoreSeen}
+use Rattle.hosttrace.specs.Statuses.{path_status}
 use Rattle.hosttrace.specs.declared.status.Refusal.{Refusal}
 use Rattle.hosttrace.specs.declared.status.Status.{Status}
 
@@ -63,6 +66,11 @@ thread_refused (Some files) source host tid merged placed h = λ r g. inr (merge
 
 pub refuses_path : (command : PlainCommand) (source : Input) (host tid from to : ℕ) → command ≡ Path source host tid from to → (seen : StoreSeen) (status : Status) → FailsBy (λ files r. PathRefuses files source host tid r) seen status → FailsBy (Refuses command) seen status
 refuses_path command source host tid from to is seen status h = subst (λ k. FailsBy (Refuses k) seen status) (sym is) h
+
+-- why a thread has no path, and the status that tells it
+pub path_fails : (merged : List Merged) (host tid : ℕ) (error : PathError) (status : Status) → status ≡ path_status host tid error → (error ≡ no.NoThread → ¬ IsNamed merged host tid) → FailsOf (ThreadRefuses merged host tid) status
+path_fails merged host tid no.NoThread status e none = subst (FailsOf (ThreadRefuses merged host tid)) (sym e) (refl, refl, none refl)
+path_fails merged host tid no.OutOfMemory status e none = subst (FailsOf (ThreadRefuses merged host tid)) (sym e) tt
 
 -- ---- the pieces over a merge
 

@@ -15,6 +15,8 @@ use Rattle.trace_metadata.specs.declared.reading.MetadataError.{MetadataError}
 use Rattle.trace_metadata.specs.declared.reading.MetadataError.TheVariants as metadata
 use Rattle.decode_pool.specs.declared.all.DecodeError.{DecodeError}
 use Rattle.decode_pool.specs.declared.all.DecodeError.TheVariants as decode
+use Rattle.critical_path.specs.declared.path.PathError.{PathError}
+use Rattle.critical_path.specs.declared.path.PathError.TheVariants as path
 use Rattle.event_list.specs.declared.list.ListError.{ListError}
 use Rattle.event_list.specs.declared.list.ListError.TheVariants as list
 use Rattle.hosttrace.specs.declared.reading.ReadError.{ReadError}
@@ -110,6 +112,11 @@ read_status what read.Fault = ReadFault
 read_status what read.TooLarge = Refused (TooLarge what)
 read_status what read.OutOfMemory = NoMemory
 
+-- why a file whose part a store didn't give wasn't read
+abbrev pub read_error : StoreError → ReadError
+read_error store.Failed = read.Fault
+read_error store.OutOfMemory = read.OutOfMemory
+
 -- the status that tells why the metadata of this host declares no trace
 abbrev pub metadata_status : ℕ → MetadataError → Status
 metadata_status host (metadata.Refused cause) = Refused (BadMetadata host cause)
@@ -120,6 +127,11 @@ abbrev pub decode_status : DecodeError → Status
 decode_status decode.TooManyPackets = Refused (TooLarge limit.Packets)
 decode_status decode.TooManyEvents = Refused TooManyEvents
 decode_status decode.OutOfMemory = NoMemory
+
+-- the status that tells why this thread has no critical path
+abbrev pub path_status : ℕ → ℕ → PathError → Status
+path_status host tid path.NoThread = Refused (NoThread host tid)
+path_status host tid path.OutOfMemory = NoMemory
 
 -- the status that tells why a text wasn't written
 abbrev pub sink_status : SinkError → Status

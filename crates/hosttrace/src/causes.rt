@@ -1,6 +1,6 @@
 //! Which status tells of each cause for which a call below has no answer.
 ghost use Rattle.std.specs.Prelude.{◌≡◌};
-ghost use Rattle.hosttrace.specs.Statuses.{metadata_status, read_status};
+ghost use Rattle.hosttrace.specs.Statuses.{metadata_status, path_status, read_status};
 ghost use Rattle.hosttrace.specs.declared.status.Refusal.TheVariants.{TooLarge};
 ghost use Rattle.hosttrace.specs.declared.status.Status.TheVariants.{Refused};
 
@@ -8,6 +8,7 @@ use crate::questions::QuestionsError;
 use crate::reading::ReadError;
 use crate::status::{Limit, ListFile, Refusal, Status};
 use command_words::WordsError;
+use critical_path::PathError;
 use decode_pool::DecodeError;
 use event_list::ListError;
 use ht_outside::{SinkError, StoreError};
@@ -123,6 +124,16 @@ pub fn undeclared(host: u32, error: MetadataError) -> Status
     match error {
         MetadataError::Refused(cause) => Status::Refused(Refusal::BadMetadata { host, cause }),
         MetadataError::OutOfMemory => Status::NoMemory,
+    }
+}
+
+/// The status of a thread of this host that has no critical path.
+pub fn pathless(host: u32, tid: u32, error: PathError) -> Status
+    ensures { result ≡ path_status host tid error }
+{
+    match error {
+        PathError::NoThread => Status::Refused(Refusal::NoThread { host, tid }),
+        PathError::OutOfMemory => Status::NoMemory,
     }
 }
 

@@ -7,11 +7,12 @@ ghost use Rattle.hosttrace.specs.Refusals.{ClusterRefuses, InputRefuses, ListRef
 ghost use Rattle.hosttrace.specs.Seen.{FailsBy, FailsOf, OnlyReads, store_seen};
 ghost use Rattle.wait_graph.specs.Graph.{IsMergeWithMessages};
 
+use crate::causes::pathless;
 use crate::clusters::read_cluster;
 use crate::inputs::read_events;
-use crate::status::{Refusal, Status};
+use crate::status::Status;
 use command_words::Input;
-use critical_path::{PathError, critical};
+use critical_path::critical;
 use host_merge::Placed;
 use ht_outside::Store;
 use list_messages::list_messages;
@@ -125,8 +126,7 @@ fn path_text(alloc: Global, found: &PlacedMerge, window: Window) -> Result<Vec<u
     let graph = graph(alloc, &found.merged, &found.placed)?;
     let pieces = match critical(alloc, &graph, host, tid, from, to) {
         Ok(pieces) => pieces,
-        Err(PathError::NoThread) => return Err(Status::Refused(Refusal::NoThread { host, tid })),
-        Err(PathError::OutOfMemory) => return Err(Status::NoMemory),
+        Err(error) => return Err(pathless(host, tid, error)),
     };
     let mut text = Vec::new(alloc);
     pieces_text(alloc, &pieces, &mut text)?;

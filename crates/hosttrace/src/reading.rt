@@ -31,6 +31,20 @@ impl From<AllocError> for ReadError {
     }
 }
 
+impl From<StoreError> for ReadError {
+    ghost use Rattle.std.specs.Prelude.{◌≡◌};
+    ghost use Rattle.hosttrace.specs.Statuses.{read_error};
+
+    ghost from_gives = { λ error e. e ≡ read_error error };
+
+    fn from(error: StoreError) -> ReadError {
+        match error {
+            StoreError::Failed => ReadError::Fault,
+            StoreError::OutOfMemory => ReadError::OutOfMemory,
+        }
+    }
+}
+
 /// Reads a file of at most so many bytes from its first to its last. One that isn't there has no bytes.
 pub fn read_file<S: Store>(
     alloc: Global,
@@ -106,7 +120,6 @@ fn read_part<S: Store>(
             bytes.extend_from_slice(&buffer[..count])?;
             Ok(count)
         }
-        Err(StoreError::Failed) => Err(ReadError::Fault),
-        Err(StoreError::OutOfMemory) => Err(ReadError::OutOfMemory),
+        Err(error) => Err(ReadError::from(error)),
     }
 }
