@@ -1,13 +1,15 @@
 //! What callers hold, and what they can do.
-ghost use Rattle.std.specs.Prelude.{◌≡◌, ℕ, ◌≤◌, ◌+◌, ◌-◌, ◌^◌, [], min, max, IfOk, IfSome, IfNone, MatchResult};
+ghost use Rattle.std.specs.Prelude.{◌≡◌, ℕ, ◌≤◌, ◌+◌, ◌-◌, ◌^◌, [], min, max, IfOk, IfSome, IfNone, MatchResult, ◌<◌, IfErr, take};
 ghost use Rattle.kernel_provider.specs.Steps.{steps_of};
 ghost use Rattle.history_core.specs.Agreement.{IsMerge};
 ghost use Rattle.history_lock.specs.Turn.{IsNext};
+ghost use Rattle.history_lock.specs.Ranges.{IsAskedAt, IsRange};
 ghost use Rattle.history_lock.specs.Tokens.{Asking, Feeding, IsAnswered};
+ghost use Rattle.trace_types.specs.declared.limits.TheConstants.{TIME_END};
 ghost use Rattle.history_core.specs.declared.question.Asked.{Asked};
 ghost use Rattle.history_lock.specs.declared.answer.TryAnswer.TheVariants.{Answer, Busy};
 
-use crate::answer::TryAnswer;
+use crate::answer::{AskedRange, TryAnswer};
 use crate::rule::Planned;
 use crate::steps::{SharedHistory, Token};
 use crossbeam_utils::Backoff;
@@ -210,6 +212,64 @@ impl SharedHistory {
         let backoff = Backoff::new();
         for _ in rt.forever() {
             if let Some(asked) = self.try_answer(pass, t, path, gate) {
+                return asked;
+            }
+            backoff.snooze();
+        }
+        unreachable!()
+    }
+
+    // One try to ask over a range.
+    fn try_range<G: Gate>(
+        &self,
+        alloc: Global,
+        pass: &mut Pass,
+        span: (u64, u64),
+        path: Path,
+        gate: &G,
+    ) -> Option<Result<AskedRange, OutOfMemory>>
+        requires own { pass.old.table ≡ self.now }
+        requires order { span.0 < span.1 }
+        requires time { span.1 < TIME_END }
+        ensures answered { IfSome result (λ r. IfOk r (λ asked. IsRange (take asked.count pass.old.plan) span.0 span.1 path asked.answer × IsAskedAt pass.old pass.new asked.count)) }
+        ensures failed { IfSome result (λ r. IfErr r (λ _. (count : ℕ) × IsAskedAt pass.old pass.new count)) }
+        ensures kept { (pass.new.table ≡ pass.old.table) × (pass.new.plan ≡ pass.old.plan) }
+        ensures missed { IfNone result (pass.new ≡ record pass.old { misses = min (pass.old.misses + 1) (2 ^ 64 - 1) }) }
+        ensures rises { pass.old.misses ≤ pass.new.misses }
+    {
+        let Some((answer, count)) = self.range_once(alloc, &mut pass.seat, span, path, gate) else {
+            pass.misses = pass.misses.saturating_add(1);
+            return None;
+        };
+        pass.seen = count;
+        match answer {
+            Ok(answer) => Some(Ok(AskedRange { answer, count })),
+            Err(error) => Some(Err(error)),
+        }
+    }
+
+    /// Waits for the turn, and tells how an attribute's value changed from one instant up to another, in ns, as far as the
+    /// steps that were fed by then tell. The only error is lack of memory, after which the history is as before and the pass
+    /// has seen the count at which it asked.
+    pub fn ask_range<R: Wait, G: Gate>(
+        &self,
+        rt: &R,
+        alloc: Global,
+        pass: &mut Pass,
+        span: (u64, u64),
+        path: Path,
+        gate: &G,
+    ) -> Result<AskedRange, OutOfMemory>
+        requires own { pass.old.table ≡ self.now }
+        requires order { span.0 < span.1 }
+        requires time { span.1 < TIME_END }
+        ensures answered { IfOk result (λ asked. IsRange (take asked.count pass.old.plan) span.0 span.1 path asked.answer × IsAskedAt pass.old pass.new asked.count) }
+        ensures failed { IfErr result (λ _. (count : ℕ) × IsAskedAt pass.old pass.new count) }
+        ensures misses { pass.old.misses ≤ pass.new.misses }
+    {
+        let backoff = Backoff::new();
+        for _ in rt.forever() {
+            if let Some(asked) = self.try_range(alloc, pass, span, path, gate) {
                 return asked;
             }
             backoff.snooze();

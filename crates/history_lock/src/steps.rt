@@ -2,6 +2,8 @@
 ghost use Rattle.std.specs.Prelude.{◌≡◌, ℕ, ◌<◌, ◌≤◌, ◌^◌, true, false, [], ◌∷◌, length, take, Some, None, IfOk, IfSome, IfNone, MatchResult};
 ghost use Rattle.history_core.specs.Answers.{answer_after};
 ghost use Rattle.history_core.specs.Stands.{Stands, AreSteps};
+ghost use Rattle.trace_types.specs.declared.limits.TheConstants.{TIME_END};
+ghost use Rattle.history_lock.specs.Ranges.{IsRange};
 ghost use Rattle.history_lock.specs.Turn.{Idle, IsTaken, IsNext, IsPlan, starter, taking, looking, giving, bumping, missing, newcomer, informed, finishing, answering, feeding, failing};
 
 use crate::rule::{Begin, Bump, Finish, Give, Look, Pair, Planned, Take, Turn};
@@ -10,6 +12,7 @@ use atomic_table::{Refused, Seat, Table};
 use history_core::{Asked, History};
 use ht_outside::{Gate, Point, Who};
 use kernel_provider::Step;
+use range_query::{RangeAnswer, range};
 use std::alloc::Global;
 use std::marker::Model;
 use trace_types::{OutOfMemory, Path};
@@ -129,6 +132,32 @@ impl SharedHistory {
         let answer = history.answer(t, path);
         self.give(seat, history);
         Some(Asked { answer, count })
+    }
+
+    // One try to answer a question over a range. Its count is the newest look, also where memory runs out.
+    pub fn range_once<G: Gate>(
+        &self,
+        alloc: Global,
+        seat: &mut Token,
+        span: (u64, u64),
+        path: Path,
+        gate: &G,
+    ) -> Option<(Result<RangeAnswer, OutOfMemory>, u64)>
+        requires own { seat.old.table_id ≡ self.now }
+        requires idle { Idle seat.old.me }
+        requires order { span.0 < span.1 }
+        requires time { span.1 < TIME_END }
+        ensures own { seat.new.table_id ≡ seat.old.table_id }
+        ensures look { IfSome result (λ r. (seat.new.me ≡ (answering seat.old.me.0 r.1, [])) × (seat.old.me.0.seen ≤ r.1)) }
+        ensures answer { IfSome result (λ r. IfOk r.0 (λ a. IsRange (take r.1 seat.old.me.0.plan) span.0 span.1 path a)) }
+        ensures missed { IfNone result (seat.new.me ≡ (missing seat.old.me.0, [])) }
+    {
+        let history = self.take(seat)?;
+        gate.pass(Who::Worker(0), Point::TurnHeld);
+        let count = self.look(seat);
+        let answer = range(alloc, &history, span.0, span.1, path);
+        self.give(seat, history);
+        Some((answer, count))
     }
 
     // One try to feed the next step of the plan. When memory runs out, the history is put back as it was.
