@@ -1,5 +1,5 @@
 -- What is answered over a range of a history that others feed (this project's own).
-use Rattle.std.specs.Prelude.{◌≡◌, ◌≤◌, ℕ, List, [], ◌∷◌, ◌++◌, min, take}
+use Rattle.std.specs.Prelude.{◌≡◌, ◌≤◌, ℕ, List, [], ◌∷◌, ◌++◌, min}
 use Rattle.trace_types.specs.declared.path.Path.{Path as AttributePath}
 use Rattle.kernel_provider.specs.declared.step.Step.{Step}
 use Rattle.history_core.specs.Changes.{built_of}

@@ -7,9 +7,10 @@ use crate::closed::switch;
 use crate::fed::{feed_some, opened};
 use crate::gates::HoldsTheTurn;
 use history_core::{Answer, Asked};
-use history_lock::{Builder, Pass, SharedHistory, TryAnswer};
+use history_lock::{AskedRange, Builder, Pass, SharedHistory, TryAnswer};
 use ht_outside::OpenGate;
 use kernel_provider::Provider;
+use range_query::Stretch;
 use std::alloc::Global;
 use std::sync::Wait;
 use std::test::Fail;
@@ -200,5 +201,52 @@ fn a_try_waits_for_nobody(rt: HostRuntime) -> Result<(), Fail> {
             count: 1
         })
     );
+    Ok(())
+}
+
+// What is told over a range of two switches after 17 steps and after 18.
+fn told_over_a_range<R: Wait>(rt: &R, alloc: Global) -> Result<[AskedRange; 2], OutOfMemory> {
+    let events = [switch(100, 0, 0, 7), switch(250, 7, 1, 0)];
+    let (shared, mut builder, mut provider, mut pass) = opened(alloc, &events)?;
+    feed_some(
+        rt,
+        &shared,
+        &mut builder,
+        &mut provider,
+        &events,
+        17,
+        &OpenGate,
+    )?;
+    let early = shared.ask_range(rt, alloc, &mut pass, (50, 300), CPU_0, &OpenGate)?;
+    feed_some(
+        rt,
+        &shared,
+        &mut builder,
+        &mut provider,
+        &events,
+        1,
+        &OpenGate,
+    )?;
+    let later = shared.ask_range(rt, alloc, &mut pass, (50, 300), CPU_0, &OpenGate)?;
+    Ok([early, later])
+}
+
+#[test]
+fn a_range_goes_as_far_as_is_built(rt: HostRuntime) -> Result<(), Fail> {
+    let [early, later] = told_over_a_range(&rt, rt.alloc())?;
+    let first = Stretch {
+        from: 50,
+        to: 100,
+        value: Value::Null,
+    };
+    let second = Stretch {
+        from: 100,
+        to: 250,
+        value: Value::Int(7),
+    };
+    assert_eq!(rt; (early.count, early.answer.built), (17, 100));
+    assert_eq!(rt; early.answer.stretches.as_slice(), [first].as_slice());
+    assert_eq!(rt; (later.count, later.answer.built), (18, 250));
+    assert_eq!(rt; later.answer.stretches.as_slice(), [first, second].as_slice());
     Ok(())
 }
