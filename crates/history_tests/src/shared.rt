@@ -247,6 +247,9 @@ fn a_range_goes_as_far_as_is_built(rt: HostRuntime) -> Result<(), Fail> {
     assert_eq!(rt; (early.count, early.answer.built), (17, 100));
     assert_eq!(rt; early.answer.stretches.as_slice(), [first].as_slice());
     assert_eq!(rt; (later.count, later.answer.built), (18, 250));
-    assert_eq!(rt; later.answer.stretches.as_slice(), [first, second].as_slice());
+    assert_eq!(rt;
+        later.answer.stretches.as_slice(),
+        [first, second].as_slice()
+    );
     Ok(())
 }
