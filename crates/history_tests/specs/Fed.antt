@@ -4,7 +4,7 @@ use Rattle.trace_types.specs.declared.event.Merged.{Merged}
 use Rattle.kernel_provider.specs.declared.step.Step.{Step}
 use Rattle.kernel_provider.specs.Given.{Given, left}
 use Rattle.history_lock.specs.Tokens.{TableId, Feeding}
-use Rattle.history_tests.specs.declared.beside.Job.{Job}
+use Rattle.history_tests.specs.declared.job.Job.{Job}
 
 -- what was fed, and what the provider has still to give, is the plan
 abbrev pub IsAt : List Merged → Feeding → Given → Type 0

@@ -7,6 +7,7 @@ ghost use denote.Param.Send.{IsSync};
 use crate::drawn::{merge, question};
 use crate::fed::{feed_some, opened};
 use crate::gates::HoldsHalfWay;
+use crate::job::Job;
 use crate::replay::Replay;
 use history_core::{Asked, Question};
 use history_lock::{Builder, Pass, SharedHistory};
@@ -21,16 +22,6 @@ use trace_types::{Merged, OutOfMemory};
 
 // How many threads ask.
 const WORKERS: u32 = 4;
-
-// A thread's part: so many questions about the instants before a limit.
-#[derive(Drop)]
-pub struct Job {
-    pub pass: Pass,
-    pub number: u32,
-    pub seed: u64,
-    pub questions: u32,
-    pub limit: u32,
-}
 
 // A question with its answer.
 #[derive(Clone, Copy, Debug, PartialEq, Eq)]

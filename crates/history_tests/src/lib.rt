@@ -15,6 +15,7 @@ mod fed;
 mod gates;
 #[cfg(test)]
 mod grown;
+pub mod job;
 #[cfg(test)]
 mod listed;
 #[cfg(test)]
