@@ -31,6 +31,21 @@ pub fn switch(key: u64, prev_tid: u32, prev_state: i64, next_tid: u32) -> Merged
     }
 }
 
+/// A soft interrupt on processor 0 of host 0.
+pub fn soft_interrupt(key: u64) -> Merged
+    ensures { result.key ≡ key }
+{
+    Merged {
+        key,
+        event: Event {
+            time: key,
+            host: 0,
+            cpu: 0,
+            kind: KernelEvent::SoftIn { vec: 3 },
+        },
+    }
+}
+
 // The stored interval of a number that holds an instant.
 fn held(history: &History, number: usize, t: u64) -> Option<Interval>
     requires { t < TIME_END }

@@ -3,7 +3,7 @@ ghost use Rattle.std.specs.Prelude.{◌≡◌};
 ghost use Rattle.history_core.specs.Agreement.{IsMerge};
 ghost use Rattle.history_tests.specs.Fed.{IsAt};
 
-use crate::closed::switch;
+use crate::closed::{soft_interrupt, switch};
 use crate::fed::{feed_some, opened};
 use crate::gates::HoldsTheTurn;
 use history_core::{Answer, Asked};
@@ -93,13 +93,13 @@ fn answers_come_at_their_counts(rt: HostRuntime) -> Result<(), Fail> {
     Ok(())
 }
 
-// What a pass is told at 100, 99, 100 and 250, of two switches at 100 and a third at 250: twice after the steps of the first,
+// What a pass is told at 100, 99, 100 and 250, of two switches at 100 and a soft interrupt at 250: twice after the steps of the first,
 // and twice after the step to 250.
 fn one_instant<R: Wait>(rt: &R, alloc: Global) -> Result<[Answer; 4], OutOfMemory> {
     let events = [
         switch(100, 0, 0, 7),
         switch(100, 7, 1, 8),
-        switch(250, 8, 1, 0),
+        soft_interrupt(250),
     ];
     let (shared, mut builder, mut provider, mut pass) = opened(alloc, &events)?;
     feed_some(
