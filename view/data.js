@@ -57,6 +57,12 @@ function bars(status, call, kinds) {
   return { ends: Float64Array.from(ends), kinds: Uint8Array.from(places) };
 }
 
+// The last name that a thread has in the window: of one that has none after all events.
+function lastName(data, track) {
+  const places = [...track.values].reverse(), place = places.find(it => it !== data.nullPlace);
+  return place === undefined ? '' : byteText(data.values[place].slice(5));
+}
+
 function decodeLane(lane, data, kinds) {
   const nothing = { ends: Float64Array.of(data.length), values: Uint32Array.of(data.nullPlace) };
   const names = lane.kind === 'cpu' ? ['Thread', 'Irq', 'Softirq'] : ['Status', 'Call', 'Cpu', 'Name'];
@@ -64,12 +70,16 @@ function decodeLane(lane, data, kinds) {
   for (const name of names) tracks[name] = lane.tracks[name] ? decodeTrack(lane.tracks[name]) : nothing;
   const mapped = (track, by) => ({ ends: track.ends, kinds: Uint8Array.from(track.values, it => by[it]) });
   const own = { host: lane.host, kind: lane.kind, id: lane.id, name: lane.name, running: lane.running, tracks };
+  if (!own.name && tracks.Name) own.name = lastName(data, tracks.Name);
   if (lane.kind === 'cpu') {
     own.bars = mapped(tracks.Thread, kinds.thread);
     own.irq = mapped(tracks.Irq, kinds.some);
     own.softirq = mapped(tracks.Softirq, kinds.some);
   } else {
     own.bars = bars(tracks.Status, tracks.Call, kinds);
+    // an idle thread runs where its processor is idle
+    if (idleThread(lane)) own.bars.kinds = own.bars.kinds.map(it => it === UNKNOWN ? it : it === READY ? BLOCKED : IDLE);
+    own.quiet = own.bars.kinds.every(it => it > READY);
   }
   return own;
 }

@@ -113,7 +113,7 @@ function drawHead(page, pen, row, y) {
   pen.fillText(name, 24, y + row.height / 2 + 0.5);
   pen.fillStyle = colours.dim;
   pen.font = `12px ${page.font}`;
-  pen.fillText(`machine ${row.host.number} · ${row.threads} threads${row.folded ? ', folded' : ''}`, 34 + width, y + row.height / 2 + 0.5);
+  pen.fillText(row.text, 34 + width, y + row.height / 2 + 0.5);
 }
 
 function drawName(page, pen, row, y) {
@@ -144,7 +144,7 @@ function drawThreads(page, pen, row, y) {
     const begin = Math.max(beginOf(track, at), from), left = xOf(page, begin), right = xOf(page, Math.min(track.ends[at], to));
     if (lane.bars.kinds[at] === RUNNING && right - left > 3) {
       if (begin > from) {
-        pen.fillStyle = THEMES[page.theme].back;
+        pen.fillStyle = THEMES[page.theme].seam;
         pen.fillRect(Math.round(left), y + 1, 1, bottom);
       }
       if (right - left > 26) {

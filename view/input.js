@@ -4,7 +4,7 @@ const KEYS = [
   ['W S, + −, Ctrl and wheel', 'zoom in, out'], ['A D, Shift and wheel', 'move left, right'], ['← →', 'move the cursor'],
   ['Shift ← →', 'to the next change of the lane'], ['↑ ↓', 'choose a lane'], ['Home End', 'to the begin, the end'], ['F', 'the whole window'],
   ['drag', 'select; Enter zooms into it, Escape drops it'], ['M', 'set a mark; two measure'], ['[ ]', 'the piece of the path before, after'],
-  ['Enter', 'fold the machine of the lane, or unfold it'], ['/', 'filter'], ['I', 'interrupts'], ['?', 'these keys'],
+  ['Enter', 'fold the machine of the lane, or unfold it'], ['/', 'filter'], ['I', 'interrupts'], ['Q', 'threads that never run here'], ['?', 'these keys'],
 ];
 
 function pointOf(page, event) {
@@ -118,7 +118,7 @@ const ACTIONS = {
     hideTooltip();
     toggleHelp(false);
   },
-  '/': page => page.filterField.select(), i: page => setInterrupts(page, !page.interrupts), '?': () => toggleHelp(),
+  '/': page => page.filterField.select(), i: page => setInterrupts(page, !page.interrupts), q: page => setQuiet(page, !page.quiet), '?': () => toggleHelp(),
 };
 
 function key(page, event) {
@@ -158,6 +158,12 @@ function setInterrupts(page, shown) {
   refresh(page, true);
 }
 
+function setQuiet(page, shown) {
+  page.quiet = shown;
+  document.getElementById('quiet').checked = shown;
+  relay(page);
+}
+
 function setTheme(page, theme) {
   page.theme = theme;
   document.documentElement.dataset.theme = theme;
@@ -188,6 +194,7 @@ function listenControls(page) {
   const on = (id, name, does) => document.getElementById(id).addEventListener(name, does);
   on('filter', 'input', it => setFilter(page, it.target.value));
   on('interrupts', 'change', it => setInterrupts(page, it.target.checked));
+  on('quiet', 'change', it => setQuiet(page, it.target.checked));
   on('disks-shown', 'change', it => { document.getElementById('disks-section').hidden = !it.target.checked; });
   on('fit', 'click', () => setView(page, 0, page.data.length));
   on('zoom-in', 'click', () => zoom(page, 0.6, zoomPoint(page)));

@@ -11,15 +11,23 @@ function byImportance(onPath) {
   return (one, other) => idleThread(one) - idleThread(other) || onPath.has(other) - onPath.has(one) || other.running - one.running;
 }
 
+function headText(host, threads, shown) {
+  return `machine ${host.number} · ${shown === threads ? `${threads} threads` : `${shown} of ${threads} threads`}`;
+}
+
 function matches(lane, words, hostName) {
   const text = `${lane.name} ${lane.id} ${lane.kind === 'cpu' ? 'processor' : 'thread'} ${hostName}`.toLowerCase();
   return words.every(it => text.includes(it));
 }
 
+// Threads that never run or wait for a processor in the window are left out, unless they are asked for.
+function threadsShown(page, threads, searched) {
+  return page.quiet || searched ? threads : threads.filter(it => !it.quiet || page.onPath.has(it));
+}
+
 // Sets the rows of all lanes that the filter leaves; a machine whose head is folded has its processors alone.
 function layOut(page) {
-  const { data } = page, rows = [], words = page.filter.toLowerCase().split(/\s+/).filter(it => it);
-  const onPath = new Set(data.path ? data.path.pieces.map(it => it.lane) : []);
+  const { data, onPath } = page, rows = [], words = page.filter.toLowerCase().split(/\s+/).filter(it => it);
   let top = 0, found = 0;
   const put = (row, height) => {
     rows.push({ ...row, top, height });
@@ -28,11 +36,12 @@ function layOut(page) {
   for (const host of data.hosts.values()) {
     const own = data.lanes.filter(it => it.host === host.number && matches(it, words, host.name));
     if (!own.length) continue;
-    const threads = own.filter(it => it.kind === 'thread').sort(byImportance(onPath)), folded = page.folded.has(host.number);
+    const all = own.filter(it => it.kind === 'thread').sort(byImportance(onPath)), folded = page.folded.has(host.number);
+    const shown = folded ? [] : threadsShown(page, all, words.length);
     found += own.length;
-    put({ host, folded, threads: threads.length }, HEAD);
+    put({ host, folded, text: headText(host, all.length, shown.length) }, HEAD);
     for (const lane of own) if (lane.kind === 'cpu') put({ host, lane }, PROCESSOR);
-    if (!folded) for (const lane of threads) put({ host, lane }, THREAD);
+    for (const lane of shown) put({ host, lane }, THREAD);
   }
   page.rows = rows;
   page.found = found;
@@ -49,11 +58,6 @@ function rowAt(page, height) {
     else low = middle + 1;
   }
   return low < page.rows.length ? low : -1;
-}
-
-// The lanes of a list that are there at all: the hook of the tests.
-function visibleLanes(page) {
-  return page.rows.filter(it => it.lane);
 }
 
 function laneTitle(data, lane) {

@@ -36,7 +36,8 @@ function main() {
   page.pen = page.canvas.getContext('2d');
   page.rulerPen = page.ruler.getContext('2d');
   document.getElementById('window').textContent = `${data.hosts.size === 1 ? '1 machine' : `${data.hosts.size} machines`}, ${data.lanes.length} lanes, ` +
-    `${shortLength(data.length)} from ${data.from}`;
+    shortLength(data.length);
+  document.getElementById('window').title = `from ${data.from} to ${data.to}`;
   const dark = matchMedia('(prefers-color-scheme: dark)');
   dark.addEventListener('change', it => setTheme(page, it.matches ? 'dark' : 'light'));
   fillClocks(page);

@@ -35,10 +35,8 @@ function eachTick(page, put) {
 
 function drawGrid(page) {
   const { pen } = page;
-  pen.fillStyle = THEMES[page.theme].grid;
-  pen.globalAlpha = 0.7;
+  pen.fillStyle = THEMES[page.theme].ticks;
   eachTick(page, offset => pen.fillRect(Math.round(xOf(page, offset)), 0, 1, page.height));
-  pen.globalAlpha = 1;
 }
 
 // A label in the ruler, kept within it.

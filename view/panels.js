@@ -86,7 +86,7 @@ function runningTotals(page) {
     threads.sort((one, other) => other.running - one.running);
     if (!threads.length) continue;
     made.push(element('h3', host.name || `machine ${host.number}`), ...threads.slice(0, 6).map(it =>
-      rowOf('total', [element('span', ''), laneTitle(page.data, it), number(millis(it.running)), element('span', '')], () => {
+      rowOf('ran', [laneTitle(page.data, it), number(millis(it.running))], () => {
         page.focus = it;
         reveal(page, page.rowOf.get(it));
       })));

@@ -74,7 +74,9 @@ function factList(facts) {
 function tellUnder(page) {
   const under = document.getElementById('under'), { cursor: at, focus: lane } = page;
   if (at === null) {
-    under.replaceChildren(element('span', 'Point at a lane, or move with the arrow keys.', 'dim'));
+    under.replaceChildren(element('p', 'Point at a lane, or move with the arrow keys: here is told what it does at that instant.', 'dim'),
+      factList([['W S', 'zoom in and out, as Ctrl and the wheel do'], ['A D', 'move left and right'], ['F', 'the whole window'],
+        ['drag', 'selects, and Enter zooms into it'], ['M', 'sets a mark; two measure'], ['/', 'filters the lanes'], ['?', 'all keys']]));
     return;
   }
   const told = lane ? factsOf(page, lane, at) : { who: '', facts: [] };
