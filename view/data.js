@@ -69,7 +69,7 @@ function decodeLane(lane, data, kinds) {
   const tracks = {};
   for (const name of names) tracks[name] = lane.tracks[name] ? decodeTrack(lane.tracks[name]) : nothing;
   const mapped = (track, by) => ({ ends: track.ends, kinds: Uint8Array.from(track.values, it => by[it]) });
-  const own = { host: lane.host, kind: lane.kind, id: lane.id, name: lane.name, running: lane.running, tracks };
+  const own = { host: lane.host, kind: lane.kind, id: lane.id, name: visible(lane.name), running: lane.running, tracks };
   if (!own.name && tracks.Name) own.name = lastName(data, tracks.Name);
   if (lane.kind === 'cpu') {
     own.bars = mapped(tracks.Thread, kinds.thread);
@@ -102,7 +102,7 @@ function decodePath(path, lanes) {
 function decodeData() {
   const holder = document.getElementById('data'), raw = JSON.parse(holder.textContent);
   holder.textContent = '';
-  const data = { from: BigInt(raw.from), to: BigInt(raw.to), drift: raw.drift, hosts: new Map(raw.hosts.map(it => [it.number, it])) };
+  const data = { from: BigInt(raw.from), to: BigInt(raw.to), drift: raw.drift, hosts: new Map(raw.hosts.map(it => [it.number, { ...it, name: visible(it.name) }])) };
   data.length = Number(data.to - data.from);
   data.values = raw.values;
   if (!data.values.includes('null')) data.values.push('null');

@@ -124,6 +124,8 @@ function drawName(page, pen, row, y) {
     pen.fillStyle = colours.focus;
     pen.fillRect(0, y, 3, row.height);
   }
+  pen.fillStyle = colours.grid;
+  pen.fillRect(GUTTER - 1, y, 1, row.height);
   pen.font = `12px ${page.font}`;
   pen.fillStyle = colours.dim;
   const number = lane.kind === 'cpu' ? '' : lane.id, width = pen.measureText(number).width;
@@ -168,6 +170,4 @@ function drawLanes(page) {
     drawName(page, pen, row, y);
     if (row.lane.kind === 'cpu') drawThreads(page, pen, row, y);
   });
-  pen.fillStyle = THEMES[page.theme].grid;
-  pen.fillRect(GUTTER - 1, 0, 1, page.height);
 }

@@ -1,18 +1,21 @@
 // Begins the page.
 
-// Fits both canvases to the place that they have.
-function resize(page) {
-  const { scroll, canvas, ruler } = page, printed = matchMedia('print').matches;
-  page.scale = printed ? 2 : Math.max(1, Math.min(devicePixelRatio || 1, 3));
-  page.width = Math.max(scroll.clientWidth, 320);
-  page.height = Math.max(scroll.clientHeight, 80);
-  for (const [it, height] of [[canvas, page.height], [ruler, RULER]]) {
-    it.width = Math.round(page.width * page.scale);
-    it.height = Math.round(height * page.scale);
-    it.style.width = `${page.width}px`;
-    it.style.height = `${height}px`;
+// Gives both canvases their size, in so many dots for each pixel of the page.
+function sizeTo(page, width, height, scale) {
+  Object.assign(page, { width, height, scale });
+  for (const [it, own] of [[page.canvas, height], [page.ruler, RULER]]) {
+    it.width = Math.round(width * scale);
+    it.height = Math.round(own * scale);
+    it.style.width = `${width}px`;
+    it.style.height = `${own}px`;
   }
   relay(page);
+}
+
+// Fits both canvases to the place that they have.
+function resize(page) {
+  const { scroll } = page, scale = Math.max(1, Math.min(devicePixelRatio || 1, 3));
+  if (!page.printing) sizeTo(page, Math.max(scroll.clientWidth, 320), Math.max(scroll.clientHeight, 80), scale);
 }
 
 // On paper the page is light, and as high as its lanes need, up to some.
@@ -20,10 +23,13 @@ function listenPrint(page) {
   let before = null;
   addEventListener('beforeprint', () => {
     before = page.theme;
+    page.printing = true;
     setTheme(page, 'light');
+    sizeTo(page, page.width, Math.max(80, Math.min(page.contentHeight - page.scrollTop, 960)), 2);
     drawFrame(page, performance.now());
   });
   addEventListener('afterprint', () => {
+    page.printing = false;
     setTheme(page, before);
     resize(page);
   });

@@ -5,7 +5,7 @@ const LEAST_VIEW = 50;
 function newPage(data) {
   return {
     data, view: { from: 0, to: data.length }, rows: [], rowOf: new Map(), folded: new Set(), filter: '', found: 0, scrollTop: 0, contentHeight: 0,
-    cursor: null, focus: null, selection: null, marks: [], piece: -1, interrupts: true, quiet: false, theme: 'light', stale: true, asked: false,
+    cursor: null, focus: null, selection: null, marks: [], piece: -1, interrupts: true, quiet: false, theme: 'light', stale: true, printing: false, drawn: 0, asked: false,
     onPath: new Set(data.path ? data.path.pieces.map(it => it.lane) : []), frames: [], lastFrame: 0,
     font: 'system-ui, "DejaVu Sans", sans-serif', width: 0, height: 0, scale: 1,
   };

@@ -1,9 +1,5 @@
 // How instants, lengths and the values of attributes are told.
 
-function grouped(number) {
-  return String(number).replace(/\B(?=(\d{3})+$)/g, '\u202f');
-}
-
 // A length in ns, by the unit that suits it, with all digits that it has.
 function lengthText(ns) {
   if (ns >= 1e9) return `${(ns / 1e9).toFixed(6)} s`;
@@ -32,14 +28,19 @@ function percent(part, whole) {
   return whole ? `${(100 * part / whole).toFixed(1)} %` : '';
 }
 
+// A name with each character that isn't seen, or that turns the writing around, as its number.
+function visible(name) {
+  return name.replace(/[\u0000-\u001f\u007f-\u009f\u061c\u200b-\u200f\u2028-\u202e\u2060-\u206f\ufeff]/g,
+    it => `\\u${it.charCodeAt(0).toString(16).padStart(4, '0')}`);
+}
+
 // Bytes as text: UTF-8 where it is that, and else each bad byte as \xHH.
 function bytesText(bytes) {
   const texts = [];
   for (let at = 0; at < bytes.length;) {
     const first = bytes[at], size = first < 0x80 ? 1 : first < 0xe0 ? 2 : first < 0xf0 ? 3 : 4;
     try {
-      const text = new TextDecoder('utf-8', { fatal: true, ignoreBOM: true }).decode(bytes.slice(at, at + size));
-      texts.push(text.replace(/[\u0000-\u001f\u007f-\u009f]/g, it => `\\x${it.charCodeAt(0).toString(16).padStart(2, '0')}`));
+      texts.push(visible(new TextDecoder('utf-8', { fatal: true, ignoreBOM: true }).decode(bytes.slice(at, at + size))));
       at += size;
     } catch {
       texts.push(`\\x${first.toString(16).padStart(2, '0')}`);

@@ -73,6 +73,7 @@ function factList(facts) {
 // Fills the panel with what is under the cursor.
 function tellUnder(page) {
   const under = document.getElementById('under'), { cursor: at, focus: lane } = page;
+  document.getElementById('under-section').className = at === null ? 'hint' : '';
   if (at === null) {
     under.replaceChildren(element('p', 'Point at a lane, or move with the arrow keys: here is told what it does at that instant.', 'dim'),
       factList([['W S', 'zoom in and out, as Ctrl and the wheel do'], ['A D', 'move left and right'], ['F', 'the whole window'],
