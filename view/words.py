@@ -32,7 +32,8 @@ class Asked:
         self.host, self.tid = numbers.get("--host"), numbers.get("--tid")
         self.begin, self.end = numbers.get("--from"), numbers.get("--to")
         self.drift = [] if "--drift" not in numbers else [f"--drift={numbers['--drift']}"]
-        self.out, self.perfetto = given.get("-o"), "--perfetto" in given
+        self.out = None if given.get("-o") == "-" else given.get("-o")
+        self.perfetto = "--perfetto" in given
         self.check()
 
     def check(self) -> None:
