@@ -60,8 +60,8 @@ class Page:
         return [*path, ["disks", *behind], ["events", *behind]]
 
     def ranges(self, parts: list) -> list:
-        return [["range", *self.from_to(), f"--attribute={','.join(path for *_, path in part)}", *self.asked.drift, "--", *self.asked.folders]
-                for part in parts]
+        behind = [*self.asked.drift, "--", *self.asked.folders]
+        return [["range", *self.from_to(), f"--attribute={','.join(path for *_, path in part)}", *behind] for part in parts]
 
     def from_to(self) -> list:
         return [f"--from={self.begin}", f"--to={self.end}"]
@@ -101,7 +101,7 @@ def window(asked: Asked, first: int, last: int) -> tuple:
     begin = min(first, LAST - 1)
     end = max(last, begin + 1)
     if end - begin > LONGEST:
-        raise Refused(REFUSED, f"too large: window: {end - begin} ns; --from {begin} --to {begin + LONGEST} is the longest that a page shows")
+        raise Refused(REFUSED, f"too large: window: {end - begin} ns; --from {begin} --to {begin + LONGEST} is the longest of a page")
     return begin, end
 
 
