@@ -5,8 +5,8 @@ make_page.py PROGRAM view [--host H --tid N] [--from T --to T] [--drift D] [-o F
 
 PROGRAM is what answers the commands of hosttrace; the launcher starts this script. docs/FORMATS.md tells of the words, of what is run, and
 of the object that the page holds."""
+import contextlib
 import json
-import os
 import re
 import signal
 import sys
@@ -38,12 +38,13 @@ class Page:
         self.begin, self.end = window(asked, *self.report.window)
         paths = [(lane, leaf, path) for lane in self.report.lanes for leaf, path in lane.paths()]
         parts = parted(paths)
+        shape = len(self.report.hosts), self.begin, self.end
         with Runs(program, [*self.others(), *self.ranges(parts)]) as runs:
             if asked.tid is not None:
-                pieces = read("path", lambda lines: pieces_of(lines, self.begin, self.end), runs)
+                pieces = read("path", lambda lines: pieces_of(lines, *shape), runs)
                 self.path = {"host": asked.host, "tid": asked.tid, "pieces": pieces}
             self.disks = read("disks", disks_of, runs)
-            self.clocks = read("events", lambda lines: clocks_of(lines, len(self.report.hosts), self.begin, self.end), runs)
+            self.clocks = read("events", lambda lines: clocks_of(lines, *shape), runs)
             try:
                 self.read_tracks(parts, runs)
                 return
@@ -181,8 +182,9 @@ def main() -> int:
         status, line = refused.status, refused.line
     except MemoryError:
         status, line = NO_MEMORY, "out of memory"
-    if sys.stderr is not None:
-        print(line, file=sys.stderr)
+    with contextlib.suppress(OSError):
+        if sys.stderr is not None:
+            print(line, file=sys.stderr)
     return status
 
 
