@@ -5,8 +5,8 @@ make_page.py PROGRAM view [--host H --tid N] [--from T --to T] [--drift D] [-o F
 
 PROGRAM is what answers the commands of hosttrace; the launcher starts this script. docs/FORMATS.md tells of the words, of what is run, and
 of the object that the page holds."""
+import contextlib
 import json
-import os
 import re
 import signal
 import sys
@@ -38,12 +38,13 @@ class Page:
         self.begin, self.end = window(asked, *self.report.window)
         paths = [(lane, leaf, path) for lane in self.report.lanes for leaf, path in lane.paths()]
         parts = parted(paths)
+        shape = len(self.report.hosts), self.begin, self.end
         with Runs(program, [*self.others(), *self.ranges(parts)]) as runs:
             if asked.tid is not None:
-                pieces = read("path", lambda lines: pieces_of(lines, self.begin, self.end), runs)
+                pieces = read("path", lambda lines: pieces_of(lines, *shape), runs)
                 self.path = {"host": asked.host, "tid": asked.tid, "pieces": pieces}
             self.disks = read("disks", disks_of, runs)
-            self.clocks = read("events", lambda lines: clocks_of(lines, len(self.report.hosts), self.begin, self.end), runs)
+            self.clocks = read("events", lambda lines: clocks_of(lines, *shape), runs)
             try:
                 self.read_tracks(parts, runs)
                 return
@@ -60,8 +61,8 @@ class Page:
         return [*path, ["disks", *behind], ["events", *behind]]
 
     def ranges(self, parts: list) -> list:
-        return [["range", *self.from_to(), f"--attribute={','.join(path for *_, path in part)}", *self.asked.drift, "--", *self.asked.folders]
-                for part in parts]
+        behind = [*self.asked.drift, "--", *self.asked.folders]
+        return [["range", *self.from_to(), f"--attribute={','.join(path for *_, path in part)}", *behind] for part in parts]
 
     def from_to(self) -> list:
         return [f"--from={self.begin}", f"--to={self.end}"]
@@ -101,7 +102,7 @@ def window(asked: Asked, first: int, last: int) -> tuple:
     begin = min(first, LAST - 1)
     end = max(last, begin + 1)
     if end - begin > LONGEST:
-        raise Refused(REFUSED, f"too large: window: {end - begin} ns; --from {begin} --to {begin + LONGEST} is the longest that a page shows")
+        raise Refused(REFUSED, f"too large: window: {end - begin} ns; --from {begin} --to {begin + LONGEST} is the longest of a page")
     return begin, end
 
 
@@ -181,8 +182,9 @@ def main() -> int:
         status, line = refused.status, refused.line
     except MemoryError:
         status, line = NO_MEMORY, "out of memory"
-    if sys.stderr is not None:
-        print(line, file=sys.stderr)
+    with contextlib.suppress(OSError):
+        if sys.stderr is not None:
+            print(line, file=sys.stderr)
     return status
 
 

@@ -85,8 +85,8 @@ class Trace:
 
     def path(self):
         """The pieces on a lane of their own, and an arrow where the path goes to another thread, from its last ns on the one before."""
-        path, hosts, lanes = self.page.path, self.page.report.hosts, {(lane.host, lane.key): tid for lane, tid in self.tids.items()
-                                                                      if lane.kind == "thread"}
+        path, hosts = self.page.path, self.page.report.hosts
+        lanes = {(lane.host, lane.key): tid for lane, tid in self.tids.items() if lane.kind == "thread"}
         own = {"pid": len(hosts) + 1, "tid": 1}
         name = f"path of {hosts[path['host']].name} {self.thread_text(path['host'], str(path['tid']))}"
         yield line(ph="M", name="process_name", args={"name": name}, **own)

@@ -63,12 +63,12 @@ class Report:
             self.lanes.append(Lane(int(fields[1]), "thread", fields[2].decode(), name_of(fields[3]), int(fields[5])))
 
 
-def pieces_of(lines, begin: int, end: int) -> list:
+def pieces_of(lines, hosts: int, begin: int, end: int) -> list:
     """The pieces of a path, which tile the window: ns, host, tid, what."""
     pieces, until = [], begin
     for line in lines:
         word, since, to, host, tid, what = line.rstrip(b"\n").split(b" ")
-        if word != b"piece" or int(since) != until:
+        if word != b"piece" or int(since) != until or int(host) >= hosts:
             raise ValueError(line)
         until = int(to)
         pieces.append([until - int(since), int(host), int(tid), what.decode()])
