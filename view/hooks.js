@@ -31,6 +31,7 @@ function setHooks(page) {
       const told = row && row.lane ? factsOf(page, row.lane, offsetOf(page, x - box.left)) : null;
       return told && [told.who, ...told.facts.map(it => it.join(' '))].join('\n');
     },
+    own: (host, offset) => String(ownTime(data.hosts.get(host), offset)),
     view: () => ({ ...page.view }),
     setView: (from, to) => setView(page, from, to),
     frames: () => page.frames.splice(0),
