@@ -165,6 +165,11 @@ function drawLanes(page) {
   pen.setTransform(scale, 0, 0, scale, 0, 0);
   pen.textBaseline = 'middle';
   pen.textAlign = 'left';
+  if (!page.rows.length) {
+    pen.font = `13px ${page.font}`;
+    pen.fillStyle = THEMES[page.theme].dim;
+    pen.fillText(page.filter.trim() ? 'The filter leaves no lane.' : 'There are no processors and threads here.', GUTTER + 16, 24);
+  }
   rowsShown(page, (row, y) => {
     if (!row.lane) return drawHead(page, pen, row, y);
     drawName(page, pen, row, y);

@@ -86,6 +86,8 @@ function enter(page) {
   } else if (page.focus) {
     const { host } = page.focus;
     toggleFold(page, host);
+    const row = page.rowOf.get(page.focus) || page.rows.find(it => it.lane && it.host.number === host);
+    setCursor(page, page.cursor, row ? row.lane : null);
   }
 }
 
