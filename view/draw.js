@@ -151,7 +151,8 @@ function drawThreads(page, pen, row, y) {
       }
       if (right - left > 26) {
         pen.fillStyle = THEMES[page.theme].onBar;
-        pen.fillText(fitText(pen, threadName(page, lane.host, page.data.values[track.values[at]]), right - left - 8), left + 4, y + bottom / 2 + 1.5);
+        const name = threadName(page, lane.host, page.data.values[track.values[at]]);
+        pen.fillText(fitText(pen, name, right - left - 8), left + 4, y + bottom / 2 + 1.5);
       }
     }
     if (track.ends[at] >= to) break;
