@@ -25,7 +25,7 @@ function listenPrint(page) {
     before = page.theme;
     page.printing = true;
     setTheme(page, 'light');
-    sizeTo(page, page.width, Math.max(80, Math.min(page.contentHeight - page.scrollTop, 960)), 2);
+    sizeTo(page, Math.max(page.width, 1000), Math.max(80, Math.min(page.contentHeight - page.scrollTop, 960)), 2);
     drawFrame(page, performance.now());
   });
   addEventListener('afterprint', () => {
