@@ -7,12 +7,14 @@ const KIND_NAMES = ['running', 'running in a system call', 'ready, waits for a p
 // Of interrupts: none, one, a soft one.
 const THEMES = {
   light: {
-    back: '#ffffff', text: '#1c2126', dim: '#5c6670', grid: '#e4e8eb', ticks: 'rgba(20, 30, 40, .10)', seam: 'rgba(0, 0, 0, .35)', head: '#f0f2f5', headText: '#1c2126', onBar: '#ffffff', path: '#101418',
+    back: '#ffffff', text: '#1c2126', dim: '#5c6670', grid: '#e4e8eb', ticks: 'rgba(20, 30, 40, .10)', seam: 'rgba(0, 0, 0, .35)',
+    head: '#f0f2f5', headText: '#1c2126', onBar: '#ffffff', path: '#101418',
     halo: '#ffffff', cursor: '#c2410c', mark: '#7a3e9d', chosen: 'rgba(0, 114, 178, .14)', focus: '#0072b2', hatch: '#c3cad0',
     kinds: ['#009e73', '#0072b2', '#e69f00', '#aab2b9', '#e3e9ee', '#eef1f3', '#f8f9fa'], irq: '#d55e00', softirq: '#cc79a7',
   },
   dark: {
-    back: '#14181c', text: '#e4e8ec', dim: '#9aa5af', grid: '#252c33', ticks: 'rgba(255, 255, 255, .10)', seam: 'rgba(0, 0, 0, .45)', head: '#20272d', headText: '#e4e8ec', onBar: '#0b0e10', path: '#ffffff',
+    back: '#14181c', text: '#e4e8ec', dim: '#9aa5af', grid: '#252c33', ticks: 'rgba(255, 255, 255, .10)',
+    seam: 'rgba(0, 0, 0, .45)', head: '#20272d', headText: '#e4e8ec', onBar: '#0b0e10', path: '#ffffff',
     halo: '#000000', cursor: '#ff9a5c', mark: '#d9a6f0', chosen: 'rgba(111, 185, 234, .20)', focus: '#6fb9ea', hatch: '#434d56',
     kinds: ['#1fb98c', '#56b4e9', '#e69f00', '#5d666e', '#2a333b', '#222930', '#191e23'], irq: '#e8743b', softirq: '#d993b9',
   },

@@ -102,7 +102,8 @@ function decodePath(path, lanes) {
 function decodeData() {
   const holder = document.getElementById('data'), raw = JSON.parse(holder.textContent);
   holder.textContent = '';
-  const data = { from: BigInt(raw.from), to: BigInt(raw.to), drift: raw.drift, hosts: new Map(raw.hosts.map(it => [it.number, { ...it, name: visible(it.name) }])) };
+  const data = { from: BigInt(raw.from), to: BigInt(raw.to), drift: raw.drift };
+  data.hosts = new Map(raw.hosts.map(it => [it.number, { ...it, name: visible(it.name) }]));
   data.length = Number(data.to - data.from);
   data.values = raw.values;
   if (!data.values.includes('null')) data.values.push('null');

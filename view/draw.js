@@ -151,7 +151,8 @@ function drawThreads(page, pen, row, y) {
       }
       if (right - left > 26) {
         pen.fillStyle = THEMES[page.theme].onBar;
-        pen.fillText(fitText(pen, threadName(page, lane.host, page.data.values[track.values[at]]), right - left - 8), left + 4, y + bottom / 2 + 1.5);
+        const name = threadName(page, lane.host, page.data.values[track.values[at]]);
+        pen.fillText(fitText(pen, name, right - left - 8), left + 4, y + bottom / 2 + 1.5);
       }
     }
     if (track.ends[at] >= to) break;
@@ -165,6 +166,11 @@ function drawLanes(page) {
   pen.setTransform(scale, 0, 0, scale, 0, 0);
   pen.textBaseline = 'middle';
   pen.textAlign = 'left';
+  if (!page.rows.length) {
+    pen.font = `13px ${page.font}`;
+    pen.fillStyle = THEMES[page.theme].dim;
+    pen.fillText(page.filter.trim() ? 'The filter leaves no lane.' : 'There are no processors and threads here.', GUTTER + 16, 24);
+  }
   rowsShown(page, (row, y) => {
     if (!row.lane) return drawHead(page, pen, row, y);
     drawName(page, pen, row, y);

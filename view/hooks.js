@@ -20,7 +20,8 @@ function placeOf(page, host, kind, id, offset) {
 function setHooks(page) {
   const { data } = page;
   window.hosttrace = {
-    lanes: () => page.rows.filter(it => it.lane).map(({ lane, top, height }) => ({ host: lane.host, kind: lane.kind, id: lane.id, name: lane.name, top, height })),
+    lanes: () => page.rows.filter(it => it.lane).map(({ lane, top, height }) => ({ host: lane.host, kind: lane.kind, id: lane.id,
+      name: lane.name, top, height })),
     at: (host, kind, id, offset) => {
       const lane = data.byKey.get(laneKey(host, kind, id));
       return lane ? Object.fromEntries(Object.keys(lane.tracks).map(it => [it, valueAt(data, lane, it, offset)])) : null;

@@ -2,9 +2,12 @@
 
 const KEYS = [
   ['W S, + −, Ctrl and wheel', 'zoom in, out'], ['A D, Shift and wheel', 'move left, right'], ['← →', 'move the cursor'],
-  ['Shift ← →', 'to the next change of the lane'], ['↑ ↓', 'choose a lane'], ['Home End', 'to the begin, the end'], ['F', 'the whole window'],
-  ['drag', 'select; Enter zooms into it, Escape drops it'], ['M', 'set a mark; two measure'], ['[ ]', 'the piece of the path before, after'],
-  ['Enter', 'fold the machine of the lane, or unfold it'], ['/', 'filter'], ['I', 'interrupts'], ['Q', 'threads that never run here'], ['?', 'these keys'],
+  ['Shift ← →', 'to the next change of the lane'], ['↑ ↓', 'choose a lane'], ['Home End', 'to the begin, the end'],
+  ['F', 'the whole window'],
+  ['drag', 'select; Enter zooms into it, Escape drops it'], ['M', 'set a mark; two measure'],
+  ['[ ]', 'the piece of the path before, after'],
+  ['Enter', 'fold the machine of the lane, or unfold it'], ['/', 'filter'], ['I', 'interrupts'],
+  ['Q', 'threads that never run here'], ['?', 'these keys'],
 ];
 
 function pointOf(page, event) {
@@ -86,6 +89,8 @@ function enter(page) {
   } else if (page.focus) {
     const { host } = page.focus;
     toggleFold(page, host);
+    const row = page.rowOf.get(page.focus) || page.rows.find(it => it.lane && it.host.number === host);
+    setCursor(page, page.cursor, row ? row.lane : null);
   }
 }
 
@@ -108,7 +113,8 @@ function lane(page, by) {
 
 const ACTIONS = {
   w: page => zoom(page, 0.75, zoomPoint(page)), s: page => zoom(page, 1 / 0.75, zoomPoint(page)),
-  '+': page => zoom(page, 0.75, zoomPoint(page)), '=': page => zoom(page, 0.75, zoomPoint(page)), '-': page => zoom(page, 1 / 0.75, zoomPoint(page)),
+  '+': page => zoom(page, 0.75, zoomPoint(page)), '=': page => zoom(page, 0.75, zoomPoint(page)),
+  '-': page => zoom(page, 1 / 0.75, zoomPoint(page)),
   a: page => move(page, -0.12), d: page => move(page, 0.12), f: page => setView(page, 0, page.data.length), m: mark,
   arrowleft: (page, event) => arrow(page, -1, event.shiftKey), arrowright: (page, event) => arrow(page, 1, event.shiftKey),
   arrowup: page => lane(page, -1), arrowdown: page => lane(page, 1), home: page => stepCursor(page, 0),
@@ -118,7 +124,8 @@ const ACTIONS = {
     hideTooltip();
     toggleHelp(false);
   },
-  '/': page => page.filterField.select(), i: page => setInterrupts(page, !page.interrupts), q: page => setQuiet(page, !page.quiet), '?': () => toggleHelp(),
+  '/': page => page.filterField.select(), i: page => setInterrupts(page, !page.interrupts), q: page => setQuiet(page, !page.quiet),
+  '?': () => toggleHelp(),
 };
 
 function key(page, event) {

@@ -61,7 +61,8 @@ function rowAt(page, height) {
 }
 
 function laneTitle(data, lane) {
-  return lane.kind === 'cpu' ? `processor ${lane.id}` : idleThread(lane) ? `idle ${lane.id}` : `${lane.name || 'without a name'} ${lane.id}`;
+  return lane.kind === 'cpu' ? `processor ${lane.id}` : idleThread(lane) ? `idle ${lane.id}`
+    : `${lane.name || 'without a name'} ${lane.id}`;
 }
 
 function hostName(data, number) {

@@ -25,7 +25,7 @@ function listenPrint(page) {
     before = page.theme;
     page.printing = true;
     setTheme(page, 'light');
-    sizeTo(page, page.width, Math.max(80, Math.min(page.contentHeight - page.scrollTop, 960)), 2);
+    sizeTo(page, Math.max(page.width, 1000), Math.max(80, Math.min(page.contentHeight - page.scrollTop, 960)), 2);
     drawFrame(page, performance.now());
   });
   addEventListener('afterprint', () => {
@@ -37,12 +37,13 @@ function listenPrint(page) {
 
 function main() {
   const page = newPage(decodeData()), { data } = page;
-  Object.assign(page, { scroll: document.getElementById('scroll'), canvas: document.getElementById('canvas'), ruler: document.getElementById('ruler'),
+  Object.assign(page, { scroll: document.getElementById('scroll'), canvas: document.getElementById('canvas'),
+    ruler: document.getElementById('ruler'),
     tall: document.getElementById('tall'), filterField: document.getElementById('filter') });
   page.pen = page.canvas.getContext('2d');
   page.rulerPen = page.ruler.getContext('2d');
-  document.getElementById('window').textContent = `${data.hosts.size === 1 ? '1 machine' : `${data.hosts.size} machines`}, ${data.lanes.length} lanes, ` +
-    shortLength(data.length);
+  const machines = data.hosts.size === 1 ? '1 machine' : `${data.hosts.size} machines`;
+  document.getElementById('window').textContent = `${machines}, ${data.lanes.length} lanes, ${shortLength(data.length)}`;
   document.getElementById('window').title = `from ${data.from} to ${data.to}`;
   const dark = matchMedia('(prefers-color-scheme: dark)');
   dark.addEventListener('change', it => setTheme(page, it.matches ? 'dark' : 'light'));

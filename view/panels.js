@@ -19,7 +19,8 @@ function number(text) {
 
 function pieceRow(page, piece) {
   const who = piece.lane && piece.lane.name || 'thread', host = hostName(page.data, piece.host);
-  const made = rowOf('', [swatch(pieceColour(page.theme, piece.what)), host, `${who} ${piece.tid}`, piece.what, number(millis(piece.length)),
+  const made = rowOf('', [swatch(pieceColour(page.theme, piece.what)), host, `${who} ${piece.tid}`, piece.what,
+    number(millis(piece.length)),
     number(percent(piece.length, page.data.length))], () => choosePiece(page, piece.place, true));
   made.title = `${who} ${piece.tid} on ${host}: ${piece.what}, ${millis(piece.length)} ms from ${millis(piece.from)} ms on`;
   return made;
@@ -96,7 +97,8 @@ function runningTotals(page) {
 
 function fillTotals(page) {
   const { path } = page.data;
-  document.getElementById('totals-title').textContent = path ? 'Totals of the request' : 'Threads that ran longest in the whole trace, in ms';
+  document.getElementById('totals-title').textContent = path ? 'Totals of the request'
+    : 'Threads that ran longest in the whole trace, in ms';
   document.getElementById('totals').replaceChildren(...path ? pathTotals(page) : runningTotals(page));
 }
 

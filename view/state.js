@@ -4,8 +4,10 @@ const LEAST_VIEW = 50;
 
 function newPage(data) {
   return {
-    data, view: { from: 0, to: data.length }, rows: [], rowOf: new Map(), folded: new Set(), filter: '', found: 0, scrollTop: 0, contentHeight: 0,
-    cursor: null, focus: null, selection: null, marks: [], piece: -1, interrupts: true, quiet: false, theme: 'light', stale: true, printing: false, drawn: 0, asked: false,
+    data, view: { from: 0, to: data.length }, rows: [], rowOf: new Map(), folded: new Set(), filter: '', found: 0, scrollTop: 0,
+    contentHeight: 0,
+    cursor: null, focus: null, selection: null, marks: [], piece: -1, interrupts: true, quiet: false, theme: 'light', stale: true,
+    printing: false, drawn: 0, asked: false,
     onPath: new Set(data.path ? data.path.pieces.map(it => it.lane) : []), frames: [], lastFrame: 0,
     font: 'system-ui, "DejaVu Sans", sans-serif', width: 0, height: 0, scale: 1,
   };
@@ -44,7 +46,8 @@ function setView(page, from, to) {
 
 // Makes the view so many times as long; the instant at `share` of it stays where it is.
 function zoom(page, times, share) {
-  const { from, to } = page.view, whole = page.data.length, length = Math.min(Math.max((to - from) * times, Math.min(LEAST_VIEW, whole)), whole);
+  const { from, to } = page.view, whole = page.data.length;
+  const length = Math.min(Math.max((to - from) * times, Math.min(LEAST_VIEW, whole)), whole);
   const fixed = from + (to - from) * share;
   setView(page, fixed - length * share, fixed + length * (1 - share));
 }

@@ -30,8 +30,8 @@ function clockRow(data, host) {
 
 function fillClocks(page) {
   const { data } = page, rows = [...data.hosts.values()].map(it => clockRow(data, it));
-  const fits = element('p', 'The wider the gap between least and greatest speed, in parts in a million from equal, the less is known of a clock. ' +
-    `They may differ by ${data.drift}.`, 'dim');
+  const fits = element('p', 'The wider the gap between least and greatest speed, in parts in a million from equal, ' +
+    `the less is known of a clock. They may differ by ${data.drift}.`, 'dim');
   document.getElementById('clocks').replaceChildren(table(['machine', 'brought to', 'least', 'greatest'], rows), fits);
 }
 

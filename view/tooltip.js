@@ -45,7 +45,8 @@ function whoText(page, piece) {
 // What is said of a lane at an instant: who, and names with values.
 function factsOf(page, lane, at) {
   const place = stretchAt(lane.bars.ends, at), begin = beginOf(lane.bars, place), end = lane.bars.ends[place];
-  const facts = [[lane.kind === 'cpu' ? 'runs' : 'state', stateFact(page, lane, at)], ['from', secondsText(begin)], ['to', secondsText(end)],
+  const facts = [[lane.kind === 'cpu' ? 'runs' : 'state', stateFact(page, lane, at)], ['from', secondsText(begin)],
+    ['to', secondsText(end)],
     ['length', lengthText(end - begin)], ...moreFacts(page, lane, at)];
   return { who: `${laneTitle(page.data, lane)} · ${hostName(page.data, lane.host)}`, facts };
 }
@@ -91,7 +92,8 @@ function showTooltip(page, x, y) {
   const told = factsOf(page, lane, at);
   tooltip.replaceChildren(element('div', told.who, 'who'), factList(told.facts));
   const box = tooltip.getBoundingClientRect();
-  const left = x + 16 + box.width > innerWidth ? x - 16 - box.width : x + 16, top = y + 18 + box.height > innerHeight ? y - 14 - box.height : y + 18;
+  const left = x + 16 + box.width > innerWidth ? x - 16 - box.width : x + 16;
+  const top = y + 18 + box.height > innerHeight ? y - 14 - box.height : y + 18;
   tooltip.style.left = `${Math.max(4, left)}px`;
   tooltip.style.top = `${Math.max(4, top)}px`;
 }
